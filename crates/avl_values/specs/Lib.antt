@@ -1,0 +1,5 @@
+pub mod Causes
+pub mod Codec
+pub mod FaultKind
+pub mod Imei
+pub mod Record

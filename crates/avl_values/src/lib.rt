@@ -1,0 +1,16 @@
+//! The values that every other crate speaks of: IMEIs, codecs, coordinates, records, lists of records, faults of bytes,
+//! and the errors that calls share. Contracts see each as the value that it stands for: an IMEI as its number, a record as
+//! a pair of codec and bytes, a list as a list.
+#![tactic(auto)]
+
+mod codec;
+mod errors;
+mod fault;
+mod gps;
+mod imei;
+
+pub use codec::Codec;
+pub use errors::{Failed, MediumFault, NoMemory};
+pub use fault::{Fault, FaultKind};
+pub use gps::Gps;
+pub use imei::Imei;
