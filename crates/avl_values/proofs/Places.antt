@@ -1,5 +1,5 @@
 -- Decimal digits, one more or one less.
-use Rattle.std.proofs.Common.{◌≡◌, ℕ, suc, ◌+◌, ◌-◌, ◌*◌, ◌/◌, ◌%◌, ◌<◌, ◌≤◌, ◌^◌, ◌&&◌, nat_le, true, List, [], ◌∷◌, ◌++◌, length, take, drop, set, get_or, refl, arith, ap, ◌∙◌, sym, subst, append_assoc, add-one}
+use Rattle.std.proofs.Common.{◌≡◌, ℕ, suc, ◌+◌, ◌-◌, ◌*◌, ◌/◌, ◌%◌, ◌<◌, ◌≤◌, ◌^◌, true, List, [], ◌∷◌, ◌++◌, length, take, drop, set, get_or, refl, arith, ap, ◌∙◌, sym, append_assoc, add-one}
 use Rattle.std.specs.List.{AllPass}
 use Rattle.std.proofs.lemmas.List.{take_more, drop-set}
 use Rattle.std.proofs.lemmas.List.Elements.{All-push}

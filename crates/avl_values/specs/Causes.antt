@@ -1,5 +1,5 @@
 -- Words about counts of faults. A count never falls, and stands still at the end of its type.
-use Rattle.std.specs.Prelude.{ℕ, ◌+◌, ◌-◌, ◌^◌, ◌≤◌, ◌⊎◌, ◌≡◌, min, Result, OnErr, OnOk}
+use Rattle.std.specs.Prelude.{ℕ, ◌+◌, ◌-◌, ◌^◌, ◌≤◌, ◌≡◌, min, Result, OnErr, OnOk}
 
 -- a count has risen, or stands at its type's end
 abbrev pub Rose : ℕ → ℕ → Type 0

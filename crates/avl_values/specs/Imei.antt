@@ -1,5 +1,5 @@
 -- An IMEI is a number below 10^15, written as 15 decimal digits.
-use Rattle.std.specs.Prelude.{ℕ, zero, suc, ◌+◌, ◌/◌, ◌%◌, ◌≤◌, ◌&&◌, nat_le, Bool, List, [], ◌∷◌, ◌++◌}
+use Rattle.std.specs.Prelude.{ℕ, zero, suc, ◌+◌, ◌/◌, ◌%◌, ◌&&◌, nat_le, Bool, List, [], ◌∷◌, ◌++◌}
 
 -- a number's last decimal digits in so many places, as ASCII text
 unfoldable pub decimal_places : ℕ → ℕ → List ℕ

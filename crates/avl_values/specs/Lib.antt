@@ -3,3 +3,4 @@ pub mod Codec
 pub mod FaultKind
 pub mod Imei
 pub mod Record
+pub mod Viewed

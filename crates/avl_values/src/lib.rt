@@ -3,14 +3,24 @@
 //! a pair of codec and bytes, a list as a list.
 #![tactic(auto)]
 
+mod byte_list;
 mod codec;
 mod errors;
 mod fault;
 mod gps;
 mod imei;
+mod rec;
+mod rec_list;
+mod wide_list;
+mod wide_rec;
 
+pub use byte_list::ByteList;
 pub use codec::Codec;
 pub use errors::{Failed, MediumFault, NoMemory};
 pub use fault::{Fault, FaultKind};
 pub use gps::Gps;
 pub use imei::Imei;
+pub use rec::Rec;
+pub use rec_list::RecList;
+pub use wide_list::WideList;
+pub use wide_rec::WideRec;

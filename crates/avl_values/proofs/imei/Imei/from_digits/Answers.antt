@@ -1,4 +1,4 @@
-use Rattle.std.proofs.Common.{◌<◌, ◌≤◌, ◌^◌, length, get_or, arith, rules}
+use Rattle.std.proofs.Common.{◌<◌, ◌^◌, arith, rules}
 use Rattle.avl_values.proofs.Places.{below-power, pass-more, places-none, power-more, taken-more}
 use Rattle.avl_values.proofs.imei.Imei.from_digits.Goals as goal
 

@@ -1,0 +1,10 @@
+-- What a tracker's record stands for.
+use Rattle.std.specs.Prelude.{List, map}
+use Rattle.avl_values.specs.declared.rec.Rec.{Rec}
+use Rattle.avl_values.specs.Record.{Record}
+
+abbrev pub record_of : Rec → Record
+record_of rec = record { codec = rec.codec; bytes = rec.bytes.items }
+
+abbrev pub records_of : List Rec → List Record
+records_of recs = map record_of recs
