@@ -24,3 +24,6 @@ pub use rec::Rec;
 pub use rec_list::RecList;
 pub use wide_list::WideList;
 pub use wide_rec::WideRec;
+
+#[cfg(test)]
+mod tests;
