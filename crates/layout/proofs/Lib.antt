@@ -1,0 +1,4 @@
+pub mod Judging
+pub mod NestedLaws
+pub mod RowLaws
+pub mod WithinLaws

@@ -1,0 +1,5 @@
+pub mod Fields
+pub mod Laws
+pub mod Nested
+pub mod Next
+pub mod Rows
