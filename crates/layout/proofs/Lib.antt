@@ -1,4 +1,5 @@
 pub mod Judging
 pub mod NestedLaws
+pub mod Numbers
 pub mod RowLaws
 pub mod WithinLaws
