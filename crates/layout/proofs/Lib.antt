@@ -1,3 +1,4 @@
+pub mod Filling
 pub mod Judging
 pub mod NestedLaws
 pub mod Numbers

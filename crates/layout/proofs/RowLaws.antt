@@ -6,6 +6,7 @@ use Rattle.std.proofs.lemmas.List.{take-append-le, drop-append-le}
 use Rattle.avl_values.specs.declared.fault.FaultKind.{FaultKind}
 use Rattle.layout.specs.Rows.{Rows, done, refuse, row, Verdict, whole, short, fault, judge, unless_fault, Fills}
 use Rattle.layout.specs.Laws.{VerdictStays, WholeIsFilled, FilledIsWhole, NoneBeginsAnother}
+use Rattle.layout.proofs.Filling.{fills_row, no_refusal}
 use Rattle.layout.proofs.Judging.{judge_short, judge_long, judge_done, judge_refuse, judge_field}
 
 -- A verdict stays.
@@ -42,11 +43,6 @@ FilledFrom rows place n v bytes = (k : ℕ) × (n ≡ place + k) × (k ≤ lengt
 fills_done : {V : Type 0} (v w : V) (place n : ℕ) (bytes : List ℕ) → whole v place ≡ whole w n → FilledFrom (done v) place n w bytes
 unfolding Fills
 fills_done v w place n bytes e = let same : v ≡ w = cc in let at : place ≡ n = cc in (0, omega arith, omega arith, (same, refl))
-
-pub fills_row : {V : Type 0} (width : ℕ) (rule : List ℕ → Option FaultKind) (rest : List ℕ → Rows V) (v : V) (field more bytes : List ℕ)
-    → bytes ≡ field ++ more → length field ≡ width → rule field ≡ None → Fills (rest field) v more → Fills (row width rule rest) v bytes
-unfolding Fills
-fills_row width rule rest v field more bytes is len passes fills = (field, more, is, len, passes, fills)
 
 unless_whole : {V : Type 0} (found : Option FaultKind) (place : ℕ) (verdict : Verdict V) (v : V) (n : ℕ) → unless_fault found place verdict ≡ whole v n → (found ≡ None) × (verdict ≡ whole v n)
 unless_whole None place verdict v n e = (refl, e)
@@ -90,10 +86,6 @@ whole_row width rule rest place v bytes more ih (field, tail, is, len, passes, f
     ap (λ b. judge (row width rule rest) place b) joined ∙ judge_field width rule rest place field (tail ++ more) len
     ∙ ap (λ o. unless_fault o place (judge (rest field) (place + width) (tail ++ more))) passes
     ∙ ih field (place + width) v tail more fills ∙ ap (λ m. whole v m) n
-
-pub no_refusal : {V : Type 0} (kind : FaultKind) (v : V) (bytes : List ℕ) → Fills (refuse kind) v bytes → ⊥
-unfolding Fills
-no_refusal kind v bytes h = h
 
 pub is_whole : {V : Type 0} → FilledIsWhole V
 is_whole (done w) place v bytes more fills = whole_done w v place bytes more fills

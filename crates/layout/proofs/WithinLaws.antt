@@ -7,14 +7,10 @@ use Rattle.avl_values.specs.declared.fault.FaultKind.TheVariants.{Overrun, Exces
 use Rattle.layout.specs.Rows.{Rows, done, refuse, row, Fills, within}
 use Rattle.layout.specs.Laws.{WithinFilled, FilledWithin}
 use Rattle.layout.proofs.Judging.{within_full, within_excess, within_refuse, within_overrun, within_row}
-use Rattle.layout.proofs.RowLaws.{fills_row, no_refusal}
+use Rattle.layout.proofs.Filling.{fills_done, fills_row, no_refusal}
 
 abbrev Inside : {V W : Type 0} → ℕ → Rows V → (V → Rows W) → W → List ℕ → Type 0
 Inside {V} room rows after w bytes = (v : V) × (room ≤ length bytes) × Fills rows v (take room bytes) × Fills (after v) w (drop room bytes)
-
-pub fills_done : {V : Type 0} (v : V) → Fills (done v) v []
-unfolding Fills
-fills_done v = (refl, refl)
 
 inside_done : {V W : Type 0} (room : ℕ) (v : V) (after : V → Rows W) (w : W) (bytes : List ℕ) → Fills (within room (done v) after) w bytes → (room ≡ 0) ⊎ (0 < room) → Inside room (done v) after w bytes
 inside_done room v after w bytes fills (inl none) =

@@ -1,0 +1,5 @@
+pub mod Fitting
+pub mod PacketFills
+pub mod ReadLaws
+pub mod RecordFills
+pub mod Table
