@@ -12,12 +12,12 @@ unfolding Fills
 done_filled v w bytes fills = fills
 
 pub fills_row : {V : Type 0} (width : ℕ) (rule : List ℕ → Option FaultKind) (rest : List ℕ → Rows V) (v : V) (field more bytes : List ℕ)
-  → bytes ≡ field ++ more → length field ≡ width → rule field ≡ None → Fills (rest field) v more → Fills (row width rule rest) v bytes
+    → bytes ≡ field ++ more → length field ≡ width → rule field ≡ None → Fills (rest field) v more → Fills (row width rule rest) v bytes
 unfolding Fills
 fills_row width rule rest v field more bytes is len passes fills = (field, more, is, len, passes, fills)
 
 pub row_filled : {V : Type 0} (width : ℕ) (rule : List ℕ → Option FaultKind) (rest : List ℕ → Rows V) (v : V) (bytes : List ℕ) → Fills (row width rule rest) v bytes
-  → (field : List ℕ) × (more : List ℕ) × (bytes ≡ field ++ more) × (length field ≡ width) × (rule field ≡ None) × Fills (rest field) v more
+    → (field : List ℕ) × (more : List ℕ) × (bytes ≡ field ++ more) × (length field ≡ width) × (rule field ≡ None) × Fills (rest field) v more
 unfolding Fills
 row_filled width rule rest v bytes fills = fills
 

@@ -1,13 +1,13 @@
 -- Numbers in bytes, the highest first, both ways.
-use Rattle.std.proofs.Common.{◌≡◌, ℕ, zero, suc, ◌+◌, ◌*◌, ◌/◌, ◌%◌, ◌^◌, ◌<◌, ◌≤◌, List, [], ◌∷◌, ◌++◌, length, get_or, take, drop, refl, sym, ap, subst, ◌∙◌, arith, length-append, length-take, add-one}
+use Rattle.std.proofs.Common.{◌≡◌, ℕ, zero, suc, ◌+◌, ◌*◌, ◌/◌, ◌%◌, ◌^◌, ◌<◌, List, [], ◌∷◌, ◌++◌, length, get_or, take, drop, refl, sym, ap, ◌∙◌, arith, length-take}
 use Rattle.std.specs.Int.{bytes_high_first, byte_at}
-use Rattle.std.specs.List.{AllByRecursion, fold}
+use Rattle.std.specs.List.{fold}
 use Rattle.std.proofs.Math.Seq.{take-length}
-use Rattle.std.proofs.Math.Nat.{div-div-eq-div-mul, div-add-mod}
+use Rattle.std.proofs.Math.Nat.{div-div-eq-div-mul}
 use Rattle.std.proofs.lemmas.Nat.{div-mul-add, mod-mul-add}
 use Rattle.std.proofs.lemmas.List.{take_more}
 use Rattle.layout.specs.Fields.{number}
-use Rattle.layout.specs.Bytes.{IsByte, AreBytes}
+use Rattle.layout.specs.Bytes.{AreBytes}
 
 -- Lists of bytes.
 

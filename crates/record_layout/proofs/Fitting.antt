@@ -1,5 +1,5 @@
 -- The values of a codec's parts are those of a record's value, and the other way round.
-use Rattle.std.proofs.Common.{◌≡◌, ℕ, ◌+◌, ◌^◌, ◌<◌, ◌≤◌, List, [], length, Bool, true, false, not, ltb, eqb, Option, Some, None, refl, sym, ap, ◌∙◌, arith, FitsSigned, eq-eqb, ◌==◌, nat_lt}
+use Rattle.std.proofs.Common.{◌≡◌, ℕ, ◌+◌, ◌^◌, ◌<◌, ◌≤◌, [], length, Bool, true, false, not, None, refl, ap, ◌∙◌, arith, FitsSigned, eq-eqb, ◌==◌, nat_lt}
 use Rattle.std.specs.Int.{w16, w32, cast_signed, cast_unsigned}
 use Rattle.std.proofs.lemmas.Bool.{le-ltb}
 use Rattle.std.proofs.lemmas.Bool.Decides.{nat_tests}
@@ -10,7 +10,7 @@ use Rattle.avl_values.specs.declared.codec.Codec.TheVariants.{C8, C8E, C16}
 use Rattle.avl_values.specs.declared.fault.FaultKind.{FaultKind}
 use Rattle.layout.specs.Fields.{fault_unless}
 use Rattle.record_layout.specs.Table.{parts_of}
-use Rattle.record_layout.specs.Spelling.{PartValues, AllFit, part_values, total_of, HasNoOther}
+use Rattle.record_layout.specs.Spelling.{PartValues, AllFit, part_values, HasNoOther}
 use Rattle.record_layout.proofs.Table.{CountsFit}
 
 pub at_most : (total counted : ℕ) (kind : FaultKind) → counted ≤ total → fault_unless (not (nat_lt total counted)) kind ≡ None
@@ -59,9 +59,30 @@ has_value C8 (time, (priority, (lon, (lat, (alt, (angle, (sats, (speed, (event, 
     let c : cast_unsigned w16 (cast_signed w16 alt) ≡ alt = of_z-to_z w16 alt fit.1.1.1.1.0 in
     let d : length ones + length twos + length fours + length eights + 0 ≡ total = omega (arith, all) in
     let F : ℕ → ℕ → ℕ → ℕ → PartValues (parts_of C8) = λ x y z t. (time, (priority, (x, (y, (z, (angle, (sats, (speed, (event, (t, (ones, (twos, (fours, (eights, none)))))))))))))) in
-    record { value = record { time = time; priority = priority; longitude = cast_signed w32 lon; latitude = cast_signed w32 lat; altitude = cast_signed w16 alt; angle = angle; satellites = sats; speed = speed;
-        event = event; generation = 0; ones = ones; twos = twos; fours = fours; eights = eights; nx = [] };
-      same = ap (λ x. F x (cast_unsigned w32 (cast_signed w32 lat)) (cast_unsigned w16 (cast_signed w16 alt)) (length ones + length twos + length fours + length eights + 0)) a ∙ ap (λ y. F lon y (cast_unsigned w16 (cast_signed w16 alt)) (length ones + length twos + length fours + length eights + 0)) b ∙ ap (λ z. F lon lat z (length ones + length twos + length fours + length eights + 0)) c ∙ ap (λ t. F lon lat alt t) d; longitude = signed_32 lon fit.1.1.0; latitude = signed_32 lat fit.1.1.1.0; altitude = signed_16 alt fit.1.1.1.1.0; no_other = (refl, refl) }
+    record {
+      value = record {
+        time = time;
+        priority = priority;
+        longitude = cast_signed w32 lon;
+        latitude = cast_signed w32 lat;
+        altitude = cast_signed w16 alt;
+        angle = angle;
+        satellites = sats;
+        speed = speed;
+        event = event;
+        generation = 0;
+        ones = ones;
+        twos = twos;
+        fours = fours;
+        eights = eights;
+        nx = [];
+      };
+      same = ap (λ x. F x (cast_unsigned w32 (cast_signed w32 lat)) (cast_unsigned w16 (cast_signed w16 alt)) (length ones + length twos + length fours + length eights + 0)) a ∙ ap (λ y. F lon y (cast_unsigned w16 (cast_signed w16 alt)) (length ones + length twos + length fours + length eights + 0)) b ∙ ap (λ z. F lon lat z (length ones + length twos + length fours + length eights + 0)) c ∙ ap (λ t. F lon lat alt t) d;
+      longitude = signed_32 lon fit.1.1.0;
+      latitude = signed_32 lat fit.1.1.1.0;
+      altitude = signed_16 alt fit.1.1.1.1.0;
+      no_other = (refl, refl);
+    }
 has_value C8E (time, (priority, (lon, (lat, (alt, (angle, (sats, (speed, (event, (total, (ones, (twos, (fours, (eights, (nx, none))))))))))))))) fit counts =
     let all = is_exactly _ total _ counts.1.1.1.1.0 in
     let a : cast_unsigned w32 (cast_signed w32 lon) ≡ lon = of_z-to_z w32 lon fit.1.1.0 in
@@ -69,9 +90,30 @@ has_value C8E (time, (priority, (lon, (lat, (alt, (angle, (sats, (speed, (event,
     let c : cast_unsigned w16 (cast_signed w16 alt) ≡ alt = of_z-to_z w16 alt fit.1.1.1.1.0 in
     let d : length ones + length twos + length fours + length eights + length nx ≡ total = omega (arith, all) in
     let F : ℕ → ℕ → ℕ → ℕ → PartValues (parts_of C8E) = λ x y z t. (time, (priority, (x, (y, (z, (angle, (sats, (speed, (event, (t, (ones, (twos, (fours, (eights, (nx, none))))))))))))))) in
-    record { value = record { time = time; priority = priority; longitude = cast_signed w32 lon; latitude = cast_signed w32 lat; altitude = cast_signed w16 alt; angle = angle; satellites = sats; speed = speed;
-        event = event; generation = 0; ones = ones; twos = twos; fours = fours; eights = eights; nx = nx };
-      same = ap (λ x. F x (cast_unsigned w32 (cast_signed w32 lat)) (cast_unsigned w16 (cast_signed w16 alt)) (length ones + length twos + length fours + length eights + length nx)) a ∙ ap (λ y. F lon y (cast_unsigned w16 (cast_signed w16 alt)) (length ones + length twos + length fours + length eights + length nx)) b ∙ ap (λ z. F lon lat z (length ones + length twos + length fours + length eights + length nx)) c ∙ ap (λ t. F lon lat alt t) d; longitude = signed_32 lon fit.1.1.0; latitude = signed_32 lat fit.1.1.1.0; altitude = signed_16 alt fit.1.1.1.1.0; no_other = refl }
+    record {
+      value = record {
+        time = time;
+        priority = priority;
+        longitude = cast_signed w32 lon;
+        latitude = cast_signed w32 lat;
+        altitude = cast_signed w16 alt;
+        angle = angle;
+        satellites = sats;
+        speed = speed;
+        event = event;
+        generation = 0;
+        ones = ones;
+        twos = twos;
+        fours = fours;
+        eights = eights;
+        nx = nx;
+      };
+      same = ap (λ x. F x (cast_unsigned w32 (cast_signed w32 lat)) (cast_unsigned w16 (cast_signed w16 alt)) (length ones + length twos + length fours + length eights + length nx)) a ∙ ap (λ y. F lon y (cast_unsigned w16 (cast_signed w16 alt)) (length ones + length twos + length fours + length eights + length nx)) b ∙ ap (λ z. F lon lat z (length ones + length twos + length fours + length eights + length nx)) c ∙ ap (λ t. F lon lat alt t) d;
+      longitude = signed_32 lon fit.1.1.0;
+      latitude = signed_32 lat fit.1.1.1.0;
+      altitude = signed_16 alt fit.1.1.1.1.0;
+      no_other = refl;
+    }
 has_value C16 (time, (priority, (lon, (lat, (alt, (angle, (sats, (speed, (event, (generation, (total, (ones, (twos, (fours, (eights, none))))))))))))))) fit counts =
     let all = is_exactly _ total _ counts.1.1.1.0 in
     let a : cast_unsigned w32 (cast_signed w32 lon) ≡ lon = of_z-to_z w32 lon fit.1.1.0 in
@@ -79,6 +121,27 @@ has_value C16 (time, (priority, (lon, (lat, (alt, (angle, (sats, (speed, (event,
     let c : cast_unsigned w16 (cast_signed w16 alt) ≡ alt = of_z-to_z w16 alt fit.1.1.1.1.0 in
     let d : length ones + length twos + length fours + length eights + 0 ≡ total = omega (arith, all) in
     let F : ℕ → ℕ → ℕ → ℕ → PartValues (parts_of C16) = λ x y z t. (time, (priority, (x, (y, (z, (angle, (sats, (speed, (event, (generation, (t, (ones, (twos, (fours, (eights, none))))))))))))))) in
-    record { value = record { time = time; priority = priority; longitude = cast_signed w32 lon; latitude = cast_signed w32 lat; altitude = cast_signed w16 alt; angle = angle; satellites = sats; speed = speed;
-        event = event; generation = generation; ones = ones; twos = twos; fours = fours; eights = eights; nx = [] };
-      same = ap (λ x. F x (cast_unsigned w32 (cast_signed w32 lat)) (cast_unsigned w16 (cast_signed w16 alt)) (length ones + length twos + length fours + length eights + 0)) a ∙ ap (λ y. F lon y (cast_unsigned w16 (cast_signed w16 alt)) (length ones + length twos + length fours + length eights + 0)) b ∙ ap (λ z. F lon lat z (length ones + length twos + length fours + length eights + 0)) c ∙ ap (λ t. F lon lat alt t) d; longitude = signed_32 lon fit.1.1.0; latitude = signed_32 lat fit.1.1.1.0; altitude = signed_16 alt fit.1.1.1.1.0; no_other = refl }
+    record {
+      value = record {
+        time = time;
+        priority = priority;
+        longitude = cast_signed w32 lon;
+        latitude = cast_signed w32 lat;
+        altitude = cast_signed w16 alt;
+        angle = angle;
+        satellites = sats;
+        speed = speed;
+        event = event;
+        generation = generation;
+        ones = ones;
+        twos = twos;
+        fours = fours;
+        eights = eights;
+        nx = [];
+      };
+      same = ap (λ x. F x (cast_unsigned w32 (cast_signed w32 lat)) (cast_unsigned w16 (cast_signed w16 alt)) (length ones + length twos + length fours + length eights + 0)) a ∙ ap (λ y. F lon y (cast_unsigned w16 (cast_signed w16 alt)) (length ones + length twos + length fours + length eights + 0)) b ∙ ap (λ z. F lon lat z (length ones + length twos + length fours + length eights + 0)) c ∙ ap (λ t. F lon lat alt t) d;
+      longitude = signed_32 lon fit.1.1.0;
+      latitude = signed_32 lat fit.1.1.1.0;
+      altitude = signed_16 alt fit.1.1.1.1.0;
+      no_other = refl;
+    }

@@ -1,5 +1,5 @@
 -- Data bodies and what fills their rows.
-use Rattle.std.proofs.Common.{◌≡◌, ℕ, zero, suc, ◌+◌, ◌<◌, ◌≤◌, List, [], ◌∷◌, ◌++◌, length, Bool, true, false, not, Option, Some, None, refl, sym, ap, subst, ◌∙◌, arith, append_assoc, ◌==◌, if◌then◌else◌}
+use Rattle.std.proofs.Common.{◌≡◌, ℕ, zero, suc, ◌<◌, List, [], ◌∷◌, ◌++◌, length, Bool, true, false, not, Option, Some, None, refl, sym, ap, subst, ◌∙◌, arith, append_assoc, ◌==◌, if◌then◌else◌}
 use Rattle.std.specs.List.{flat_map, AllByRecursion}
 use Rattle.std.proofs.lemmas.Bool.Decides.{nat_tests}
 use Rattle.avl_values.specs.Codec.{codec_of, id_of}
@@ -11,7 +11,7 @@ use Rattle.layout.specs.Rows.{Rows, done, Fills}
 use Rattle.layout.specs.Bytes.{AreBytes}
 use Rattle.layout.specs.Fields.{number, number_row, times, fault_unless}
 use Rattle.layout.proofs.Filling.{fills_done, done_filled, fills_row, row_filled}
-use Rattle.layout.proofs.Numbers.{bytes-front, bytes-back}
+use Rattle.layout.proofs.Numbers.{bytes-back}
 use Rattle.record_layout.specs.declared.head.PacketHead.{PacketHead}
 use Rattle.record_layout.specs.RecordRows.{record_rows}
 use Rattle.record_layout.specs.PacketRows.{last_count, after_codec, codec_rule, with_codec, packet_rows}
@@ -49,7 +49,7 @@ byte_take rule rest v bytes fills =
 -- The records.
 
 records_fill : {V : Type 0} (codec : Codec) (rs : List (List ℕ)) (rest : Rows V) (v : V) (more : List ℕ) → AllByRecursion (IsSomeRecord codec) rs → Fills rest v more
-  → Fills (times (length rs) (record_rows codec) rest) v (flat_map (λ r. r) rs ++ more)
+    → Fills (times (length rs) (record_rows codec) rest) v (flat_map (λ r. r) rs ++ more)
 records_fill codec [] rest v more each fills = fills
 records_fill codec (r ∷ rs) rest v more each fills =
     let rows = times (length rs) (record_rows codec) rest in
@@ -68,8 +68,14 @@ records_take codec zero rest v bytes p fills = record { rs = []; more = bytes; i
 records_take codec (suc n) rest v bytes p fills =
     let one = record_take codec (times n (record_rows codec) rest) v bytes p fills in
     let t = records_take codec n rest v one.more (bytes-back one.front one.more (subst AreBytes one.is p)) one.fills in
-    record { rs = one.front ∷ t.rs; more = t.more; is = one.is ∙ ap (λ b. one.front ++ b) t.is ∙ sym (append_assoc one.front (flat_map (λ x. x) t.rs) t.more);
-      len = ap (λ k. suc k) t.len; each = (one.some, t.each); fills = t.fills }
+    record {
+      rs = one.front ∷ t.rs;
+      more = t.more;
+      is = one.is ∙ ap (λ b. one.front ++ b) t.is ∙ sym (append_assoc one.front (flat_map (λ x. x) t.rs) t.more);
+      len = ap (λ k. suc k) t.len;
+      each = (one.some, t.each);
+      fills = t.fills;
+    }
 
 -- The whole.
 
@@ -102,10 +108,10 @@ packet_fills codec rs bytes packet =
     let head : PacketHead = record { codec = codec; count = n } in
     let records = records_fill codec rs (last_count head) head (n ∷ []) packet.each (last_fill head) in
     let behind : Fills (after_codec codec) head (n ∷ (flat_map (λ r. r) rs ++ n ∷ [])) =
-      fills_byte (λ k. fault_unless (not (k == 0)) NoRecords) (λ k. times k (record_rows codec) (last_count (record { codec = codec; count = k }))) head n _ (some_rule n packet.some) records in
+    fills_byte (λ k. fault_unless (not (k == 0)) NoRecords) (λ k. times k (record_rows codec) (last_count (record { codec = codec; count = k }))) head n _ (some_rule n packet.some) records in
     let id = codec-id codec in
     subst (Fills packet_rows head) (sym packet.is)
-      (fills_byte (λ k. codec_rule (codec_of k)) (λ k. with_codec (codec_of k)) head (id_of codec) _ (ap codec_rule id) (subst (λ c. Fills (with_codec c) head (n ∷ (flat_map (λ r. r) rs ++ n ∷ []))) (sym id) behind))
+    (fills_byte (λ k. codec_rule (codec_of k)) (λ k. with_codec (codec_of k)) head (id_of codec) _ (ap codec_rule id) (subst (λ c. Fills (with_codec c) head (n ∷ (flat_map (λ r. r) rs ++ n ∷ []))) (sym id) behind))
 
 pub record FilledPacket (head : PacketHead) (bytes : List ℕ) : Type 0 where
   pub records : List (List ℕ)
@@ -114,7 +120,7 @@ pub record FilledPacket (head : PacketHead) (bytes : List ℕ) : Type 0 where
 
 -- the codec whose id a byte is
 id_by : (id : ℕ) (a b c : Bool) (codec : Codec) → (id == 0x08) ≡ a → (id == 0x8e) ≡ b → (id == 0x10) ≡ c
-  → (if a then Some C8 else if b then Some C8E else if c then Some C16 else None) ≡ Some codec → id ≡ id_of codec
+    → (if a then Some C8 else if b then Some C8E else if c then Some C16 else None) ≡ Some codec → id ≡ id_of codec
 id_by id true b c codec p q r e = let k : C8 ≡ codec = cc in let n : id ≡ 0x08 = grind (arith, nat_tests) in n ∙ ap id_of k
 id_by id false true c codec p q r e = let k : C8E ≡ codec = cc in let n : id ≡ 0x8e = grind (arith, nat_tests) in n ∙ ap id_of k
 id_by id false false true codec p q r e = let k : C16 ≡ codec = cc in let n : id ≡ 0x10 = grind (arith, nat_tests) in n ∙ ap id_of k
@@ -124,7 +130,7 @@ id_from : (id : ℕ) (codec : Codec) → codec_of id ≡ Some codec → id ≡ i
 id_from id codec e = id_by id (id == 0x08) (id == 0x8e) (id == 0x10) codec refl refl refl e
 
 after_take : (codec : Codec) (head : PacketHead) (bytes : List ℕ) → AreBytes bytes → Fills (after_codec codec) head bytes
-  → (records : List (List ℕ)) × (head ≡ record { codec = codec; count = length records }) × (bytes ≡ length records ∷ (flat_map (λ r. r) records ++ length records ∷ [])) × AllByRecursion (IsSomeRecord codec) records
+    → (records : List (List ℕ)) × (head ≡ record { codec = codec; count = length records }) × (bytes ≡ length records ∷ (flat_map (λ r. r) records ++ length records ∷ [])) × AllByRecursion (IsSomeRecord codec) records
     × (0 < length records) × (length records < 256)
 after_take codec head bytes p fills =
     let first = byte_take (λ k. fault_unless (not (k == 0)) NoRecords) (λ k. times k (record_rows codec) (last_count (record { codec = codec; count = k }))) head bytes fills in
@@ -135,7 +141,7 @@ after_take codec head bytes p fills =
     let len : length rs.rs ≡ first.first = rs.len in
     let fm = flat_map (λ (r : List ℕ). r) rs.rs in
     let is : bytes ≡ length rs.rs ∷ (fm ++ length rs.rs ∷ []) =
-      first.is ∙ ap (λ b. first.first ∷ b) (rs.is ∙ ap (λ b. fm ++ b) end.1) ∙ ap (λ k. k ∷ (fm ++ k ∷ [])) (sym len) in
+    first.is ∙ ap (λ b. first.first ∷ b) (rs.is ∙ ap (λ b. fm ++ b) end.1) ∙ ap (λ k. k ∷ (fm ++ k ∷ [])) (sym len) in
     (rs.rs, sym end.0 ∙ ap (λ k. record { codec = codec; count = k }) (sym len), is, rs.each, subst (λ k. 0 < k) (sym len) (some_from first.first first.passes), subst (λ k. k < 256) (sym len) q.0)
 
 by_codec : (id : ℕ) (found : Option Codec) (head : PacketHead) (more bytes : List ℕ) → codec_of id ≡ found → bytes ≡ id ∷ more → AreBytes more → codec_rule found ≡ None → Fills (with_codec found) head more → FilledPacket head bytes

@@ -1,20 +1,17 @@
 -- The laws of data bodies.
-use Rattle.std.proofs.Common.{◌≡◌, ℕ, zero, suc, ◌+◌, ◌-◌, ◌<◌, ◌≤◌, List, [], ◌∷◌, ◌++◌, length, take, drop, map, Option, Some, None, refl, sym, ap, subst, ◌∙◌, arith, append_assoc, length-take, length-drop}
+use Rattle.std.proofs.Common.{◌≡◌, ℕ, suc, ◌+◌, ◌≤◌, List, [], ◌∷◌, ◌++◌, length, take, drop, map, Some, refl, sym, ap, subst, ◌∙◌, arith, append_assoc, length-take, length-drop}
 use Rattle.std.specs.List.{flat_map, AllByRecursion}
 use Rattle.std.proofs.Math.Seq.{take-append_seam, drop-append_seam, take-length}
 use Rattle.std.proofs.lemmas.List.{append-nil}
-use Rattle.avl_values.specs.Codec.{codec_of, id_of}
 use Rattle.avl_values.specs.Record.{Record}
 use Rattle.avl_values.specs.declared.codec.Codec.{Codec}
-use Rattle.layout.specs.Bytes.{AreBytes}
-use Rattle.layout.specs.Rows.{done, whole, short, judge, body, Fills}
+use Rattle.layout.specs.Rows.{done, whole, body, Fills}
 use Rattle.layout.proofs.Filling.{fills_done, done_filled}
 use Rattle.layout.proofs.Numbers.{bytes-take}
 use Rattle.layout.proofs.RowLaws.{stays, filled, is_whole, none_begins}
 use Rattle.layout.proofs.WithinLaws.{inside, around}
 use Rattle.record_layout.specs.declared.head.PacketHead.{PacketHead}
 use Rattle.record_layout.specs.Laws.{WholeIsPacket, PacketIsWhole, PacketVerdictStays, NoPacketBeginsAnother, RecordsAreRead}
-use Rattle.record_layout.specs.Packet.{IsPacket, packet_bytes}
 use Rattle.record_layout.specs.PacketRows.{packet_rows, packet_verdict}
 use Rattle.record_layout.specs.RecordRows.{lone_record}
 use Rattle.record_layout.specs.RecordsOf.{end_of, first_record, or_none, records_in, records_by, records_of}
@@ -92,6 +89,8 @@ strip codec (r ∷ rs) = ap (λ s. r ∷ s) (strip codec rs)
 pub none_begins_packet : NoPacketBeginsAnother
 none_begins_packet c d rs ss a b x y p q same =
     let both = none_begins packet_rows (record { codec = c; count = length rs }) (record { codec = d; count = length ss }) a b x y (packet_fills c rs a p) (packet_fills d ss b q) same in
-    let B : List Record → List (List ℕ) = λ l. map (λ (r : Record). r.bytes) l in
-    (both.0, ap (λ (h : PacketHead). h.codec) both.1,
-      sym (strip c rs) ∙ ap B (sym (records_read c rs a p) ∙ ap records_of both.0 ∙ records_read d ss b q) ∙ strip d ss)
+    let B : List Record → List (List ℕ) = λ l. map (λ (r : Record). r.bytes) l in (
+      both.0,
+      ap (λ (h : PacketHead). h.codec) both.1,
+      sym (strip c rs) ∙ ap B (sym (records_read c rs a p) ∙ ap records_of both.0 ∙ records_read d ss b q) ∙ strip d ss,
+    )

@@ -1,5 +1,5 @@
 -- Records and what fills their rows.
-use Rattle.std.proofs.Common.{◌≡◌, ℕ, List, [], ◌++◌, refl, sym, ap, subst, ◌∙◌}
+use Rattle.std.proofs.Common.{◌≡◌, ℕ, List, [], ◌++◌, sym, ap, subst, ◌∙◌}
 use Rattle.std.proofs.lemmas.List.{append-nil}
 use Rattle.avl_values.specs.declared.codec.Codec.{Codec}
 use Rattle.layout.specs.Rows.{Rows, Fills}
@@ -7,16 +7,16 @@ use Rattle.layout.specs.Bytes.{AreBytes}
 use Rattle.layout.proofs.Filling.{fills_done, done_filled}
 use Rattle.record_layout.specs.Table.{parts_of}
 use Rattle.record_layout.specs.RecordRows.{record_rows, lone_record}
-use Rattle.record_layout.specs.Spelling.{PartValues, AllFit, joined, part_values, IsRecord}
+use Rattle.record_layout.specs.Spelling.{PartValues, AllFit, joined, part_values}
 use Rattle.record_layout.specs.SomeRecord.{IsSomeRecord}
-use Rattle.record_layout.proofs.Table.{CountsFit, parts_fill, parts_take, Taken}
+use Rattle.record_layout.proofs.Table.{CountsFit, parts_fill, parts_take}
 use Rattle.record_layout.proofs.Fitting.{counts_fit, has_value}
 
 -- a record and what follows it fill the rows
 pub record_fill : {V : Type 0} (codec : Codec) (r : List ℕ) (rest : Rows V) (v : V) (more : List ℕ) → IsSomeRecord codec r → Fills rest v more → Fills (record_rows codec rest) v (r ++ more)
 record_fill codec r rest v more some fills =
     subst (λ b. Fills (record_rows codec rest) v (b ++ more)) (sym some.is.is)
-      (parts_fill (parts_of codec) (part_values codec some.value) 0 0 rest v more some.is.fits (counts_fit codec some.value some.is.no_other) fills)
+    (parts_fill (parts_of codec) (part_values codec some.value) 0 0 rest v more some.is.fits (counts_fit codec some.value some.is.no_other) fills)
 
 -- a record in front, and what follows it
 pub record TakenRecord {V : Type 0} (codec : Codec) (rest : Rows V) (v : V) (bytes : List ℕ) : Type 0 where
@@ -29,8 +29,17 @@ pub record TakenRecord {V : Type 0} (codec : Codec) (rest : Rows V) (v : V) (byt
 pub some_record : (codec : Codec) (values : PartValues (parts_of codec)) → AllFit (parts_of codec) values → CountsFit (parts_of codec) values 0 0 → IsSomeRecord codec (joined (parts_of codec) values)
 some_record codec values fit counts =
     let h = has_value codec values fit counts in
-    record { value = h.value; is = record { is = ap (joined (parts_of codec)) (sym h.same); fits = subst (AllFit (parts_of codec)) (sym h.same) fit;
-      longitude = h.longitude; latitude = h.latitude; altitude = h.altitude; no_other = h.no_other } }
+    record {
+      value = h.value;
+      is = record {
+        is = ap (joined (parts_of codec)) (sym h.same);
+        fits = subst (AllFit (parts_of codec)) (sym h.same) fit;
+        longitude = h.longitude;
+        latitude = h.latitude;
+        altitude = h.altitude;
+        no_other = h.no_other;
+      };
+    }
 
 pub record_take : {V : Type 0} (codec : Codec) (rest : Rows V) (v : V) (bytes : List ℕ) → AreBytes bytes → Fills (record_rows codec rest) v bytes → TakenRecord codec rest v bytes
 record_take codec rest v bytes p fills =

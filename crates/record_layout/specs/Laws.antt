@@ -11,12 +11,12 @@ use Rattle.record_layout.specs.RecordsOf.{records_of}
 -- A whole verdict says that the body of so many bytes is there and is a packet.
 abbrev pub WholeIsPacket : Type 0
 WholeIsPacket = (total n : ℕ) (head : PacketHead) (bytes : List ℕ) → AreBytes bytes → packet_verdict total bytes ≡ whole head n
-  → (records : List (List ℕ)) × (n ≡ total) × (total ≤ length bytes) × IsPacket head.codec records (take total bytes) × (head.count ≡ length records)
+    → (records : List (List ℕ)) × (n ≡ total) × (total ≤ length bytes) × IsPacket head.codec records (take total bytes) × (head.count ≡ length records)
 
 -- And a packet's verdict is whole, whatever follows.
 abbrev pub PacketIsWhole : Type 0
 PacketIsWhole = (codec : Codec) (records : List (List ℕ)) (bytes more : List ℕ) → IsPacket codec records bytes
-  → packet_verdict (length bytes) (bytes ++ more) ≡ whole (record { codec = codec; count = length records }) (length bytes)
+    → packet_verdict (length bytes) (bytes ++ more) ≡ whole (record { codec = codec; count = length records }) (length bytes)
 
 -- A verdict that has come stays, whatever follows.
 abbrev pub PacketVerdictStays : Type 0
@@ -29,4 +29,4 @@ NoPacketBeginsAnother = (c d : Codec) (rs ss : List (List ℕ)) (a b x y : List 
 -- The records of a packet are those that are read from its bytes.
 abbrev pub RecordsAreRead : Type 0
 RecordsAreRead = (codec : Codec) (records : List (List ℕ)) (bytes : List ℕ) → IsPacket codec records bytes
-  → records_of bytes ≡ map (λ r. record { codec = codec; bytes = r }) records
+    → records_of bytes ≡ map (λ r. record { codec = codec; bytes = r }) records

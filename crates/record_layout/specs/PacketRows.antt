@@ -17,7 +17,7 @@ last_count head = number_row 1 (λ n. fault_unless (n == head.count) CountMismat
 -- the number of records, which isn't 0, and the records
 abbrev pub after_codec : Codec → Rows PacketHead
 after_codec codec =
-  number_row 1 (λ n. fault_unless (not (n == 0)) NoRecords)
+    number_row 1 (λ n. fault_unless (not (n == 0)) NoRecords)
     (λ n. times n (record_rows codec) (last_count (record { codec = codec; count = n })))
 
 abbrev pub codec_rule : Option Codec → Option FaultKind

@@ -30,9 +30,9 @@ parts_rows [] total counted rest = rest
 parts_rows (Plain width ∷ ps) total counted rest = any (bytes_of width) (parts_rows ps total counted rest)
 parts_rows (Total width ∷ ps) total counted rest = number_row (bytes_of width) (λ _. None) (λ n. parts_rows ps n counted rest)
 parts_rows (Pairs count id value ∷ ps) total counted rest =
-  number_row (bytes_of count) (λ n. count_rule ps total (counted + n)) (λ n. times n (pair_rows id value) (parts_rows ps total (counted + n) rest))
+    number_row (bytes_of count) (λ n. count_rule ps total (counted + n)) (λ n. times n (pair_rows id value) (parts_rows ps total (counted + n) rest))
 parts_rows (Triples count id len ∷ ps) total counted rest =
-  number_row (bytes_of count) (λ n. count_rule ps total (counted + n)) (λ n. times n (triple_rows id len) (parts_rows ps total (counted + n) rest))
+    number_row (bytes_of count) (λ n. count_rule ps total (counted + n)) (λ n. times n (triple_rows id len) (parts_rows ps total (counted + n) rest))
 
 -- a record, and what comes after it
 abbrev pub record_rows : {V : Type 0} → Codec → Rows V → Rows V

@@ -62,12 +62,81 @@ total_of v = length v.ones + length v.twos + length v.fours + length v.eights + 
 
 -- what the parts of a record in this codec say of the value; coordinates and the altitude are in two's complement
 abbrev pub part_values : (codec : Codec) → RecordValue → PartValues (parts_of codec)
-part_values C8 v = (v.time, (v.priority, (cast_unsigned w32 v.longitude, (cast_unsigned w32 v.latitude, (cast_unsigned w16 v.altitude, (v.angle, (v.satellites, (v.speed,
-  (v.event, (total_of v, (v.ones, (v.twos, (v.fours, (v.eights, tt))))))))))))))
-part_values C8E v = (v.time, (v.priority, (cast_unsigned w32 v.longitude, (cast_unsigned w32 v.latitude, (cast_unsigned w16 v.altitude, (v.angle, (v.satellites, (v.speed,
-  (v.event, (total_of v, (v.ones, (v.twos, (v.fours, (v.eights, (v.nx, tt)))))))))))))))
-part_values C16 v = (v.time, (v.priority, (cast_unsigned w32 v.longitude, (cast_unsigned w32 v.latitude, (cast_unsigned w16 v.altitude, (v.angle, (v.satellites, (v.speed,
-  (v.event, (v.generation, (total_of v, (v.ones, (v.twos, (v.fours, (v.eights, tt)))))))))))))))
+part_values C8 v = (
+  v.time,
+  (
+    v.priority,
+    (
+      cast_unsigned w32 v.longitude,
+      (
+        cast_unsigned w32 v.latitude,
+        (
+          cast_unsigned w16 v.altitude,
+          (
+            v.angle,
+            (
+              v.satellites,
+              (
+                v.speed,
+                (v.event, (total_of v, (v.ones, (v.twos, (v.fours, (v.eights, tt)))))),
+              ),
+            ),
+          ),
+        ),
+      ),
+    ),
+  ),
+)
+part_values C8E v = (
+  v.time,
+  (
+    v.priority,
+    (
+      cast_unsigned w32 v.longitude,
+      (
+        cast_unsigned w32 v.latitude,
+        (
+          cast_unsigned w16 v.altitude,
+          (
+            v.angle,
+            (
+              v.satellites,
+              (
+                v.speed,
+                (v.event, (total_of v, (v.ones, (v.twos, (v.fours, (v.eights, (v.nx, tt))))))),
+              ),
+            ),
+          ),
+        ),
+      ),
+    ),
+  ),
+)
+part_values C16 v = (
+  v.time,
+  (
+    v.priority,
+    (
+      cast_unsigned w32 v.longitude,
+      (
+        cast_unsigned w32 v.latitude,
+        (
+          cast_unsigned w16 v.altitude,
+          (
+            v.angle,
+            (
+              v.satellites,
+              (
+                v.speed,
+                (v.event, (v.generation, (total_of v, (v.ones, (v.twos, (v.fours, (v.eights, tt))))))),
+              ),
+            ),
+          ),
+        ),
+      ),
+    ),
+  ),
+)
 
 -- only Codec 8 Extended has elements of any length, and only Codec 16 a generation type
 abbrev pub HasNoOther : Codec → RecordValue → Type 0

@@ -7,5 +7,8 @@ mod laws;
 mod part;
 
 pub use head::PacketHead;
-pub use laws::{no_packet_begins_another, packet_is_whole, packet_verdict_stays, records_are_read, whole_is_packet};
+pub use laws::{
+    no_packet_begins_another, packet_is_whole, packet_verdict_stays, records_are_read,
+    whole_is_packet,
+};
 pub use part::{Part, parts};
