@@ -1,4 +1,5 @@
 pub mod Filling
+pub mod Following
 pub mod Judging
 pub mod NestedLaws
 pub mod Numbers

@@ -1,7 +1,7 @@
 -- Fields from which layouts are made.
 use Rattle.std.specs.Prelude.{ℕ, zero, suc, ◌+◌, ◌*◌, List, Bool, true, false, Option, Some, None, fold}
 use Rattle.avl_values.specs.declared.fault.FaultKind.{FaultKind}
-use Rattle.layout.specs.Rows.{Rows, row}
+use Rattle.layout.specs.Rows.{Rows, done, refuse, row}
 
 -- the number that bytes spell, the highest first
 abbrev pub number : List ℕ → ℕ
@@ -24,3 +24,9 @@ number_row width rule rest = row width (λ field. rule (number field)) (λ field
 abbrev pub times : {V : Type 0} → ℕ → (Rows V → Rows V) → Rows V → Rows V
 times zero rows rest = rest
 times (suc n) rows rest = rows (times n rows rest)
+
+-- rows, and then those that the first ones' value asks for
+unfoldable pub followed_by : {V W : Type 0} → Rows V → (V → Rows W) → Rows W
+followed_by (done v) after = after v
+followed_by (refuse kind) after = refuse kind
+followed_by (row width rule rest) after = row width rule (λ field. followed_by (rest field) after)

@@ -1,4 +1,5 @@
 pub mod Fitting
+pub mod Following
 pub mod PacketFills
 pub mod ReadLaws
 pub mod RecordFills
