@@ -1,0 +1,7 @@
+pub mod Filling
+pub mod Following
+pub mod Judging
+pub mod NestedLaws
+pub mod Numbers
+pub mod RowLaws
+pub mod WithinLaws
