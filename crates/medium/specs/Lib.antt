@@ -1,0 +1,5 @@
+pub mod Buffer
+pub mod CallsLeft
+pub mod Content
+pub mod Memory
+pub mod State
