@@ -1,5 +1,5 @@
 -- A loop that sets a range of a buffer, and what it leaves.
-use Rattle.std.proofs.Common.{◌≡◌, ◌≢◌, ◌⊎◌, inl, inr, ℕ, ◌+◌, ◌-◌, ◌<◌, ◌≤◌, min, max, Bool, true, false, List, length, get_or, set, take, replicate, sym, ◌∙◌, ap, refl, subst, arith, length-take, length-set, get_or-set_same, get_or-set_other}
+use Rattle.std.proofs.Common.{◌≡◌, ◌⊎◌, inl, inr, ℕ, ◌+◌, ◌-◌, ◌<◌, ◌≤◌, max, Bool, true, false, List, length, get_or, set, take, replicate, sym, ◌∙◌, ap, refl, subst, arith, length-take, length-set, get_or-set_same, get_or-set_other}
 use Rattle.std.proofs.lemmas.List.{length-replicate, ext_get_or, get_or-take, get_or-replicate, get_or_past}
 use Rattle.std.proofs.lemmas.Bool.{cases_lt, cases_eq}
 use Rattle.medium.specs.Content.{written}
@@ -20,14 +20,14 @@ pub set-more : {A : Type 0} → {d : A} {at n : ℕ} {f : ℕ → A} {before aft
 set-more {d = d} {at = at} {n = n} {f = f} {before = before} {after = after} so i is fits y value = record {
   size = length-set after i y ∙ so.size;
   there = λ k below. elim (cases_eq k n) as (λ _. get_or (set after i y) (at + k) d ≡ f k) [
-    inl same ↦
-      let here : at + k ≡ i = omega arith in
-      ap (λ j. get_or (set after i y) j d) here ∙ get_or-set_same after i y d fits ∙ value ∙ ap f (sym same)
-  | inr other ↦ get_or-set_other after i (at + k) y d (λ eq. other (omega arith)) ∙ so.there k (omega arith)
+    | inl same ↦
+        let here : at + k ≡ i = omega arith in
+        ap (λ j. get_or (set after i y) j d) here ∙ get_or-set_same after i y d fits ∙ value ∙ ap f (sym same)
+    | inr other ↦ get_or-set_other after i (at + k) y d (λ eq. other (omega arith)) ∙ so.there k (omega arith)
   ];
   elsewhere = λ k out. elim out as (λ _. get_or (set after i y) k d ≡ get_or before k d) [
-    inl low ↦ get_or-set_other after i k y d (λ eq. omega arith) ∙ so.elsewhere k (inl low)
-  | inr high ↦ get_or-set_other after i k y d (λ eq. omega arith) ∙ so.elsewhere k (inr (omega arith))
+    | inl low ↦ get_or-set_other after i k y d (λ eq. omega arith) ∙ so.elsewhere k (inl low)
+    | inr high ↦ get_or-set_other after i k y d (λ eq. omega arith) ∙ so.elsewhere k (inr (omega arith))
   ];
 }
 
@@ -39,19 +39,19 @@ pub data Place (at n k : ℕ) : Type 0 where
 
 pub place_of : (at n k : ℕ) → Place at n k
 place_of at n k = elim (cases_lt k at) as (λ _. Place at n k) [
-  inl low ↦ ahead low
+  | inl low ↦ ahead low
   | inr from ↦ elim (cases_lt k (at + n)) as (λ _. Place at n k) [
-    inl in_range ↦ inside (k - at) (omega arith) (omega arith)
-  | inr high ↦ past high
+    | inl in_range ↦ inside (k - at) (omega arith) (omega arith)
+    | inr high ↦ past high
   ]
-  ]
+]
 
 -- what a front gives at a place
 front : {A : Type 0} → (d : A) (n : ℕ) (xs : List A) (k : ℕ) → IsPadded d n xs → get_or (take n xs) k d ≡ get_or xs k d
 front d n xs k padded = elim (cases_lt k n) as (λ _. get_or (take n xs) k d ≡ get_or xs k d) [
-  inl low ↦ get_or-take n xs k d low
+  | inl low ↦ get_or-take n xs k d low
   | inr high ↦ get_or_past (take n xs) k d (omega (arith, length-take n xs)) ∙ sym (padded.behind k high)
-  ]
+]
 
 module _ {A : Type 0} (d : A) (at : ℕ) (ys : List A) (len : ℕ) (before after : List A)
     (padded : IsPadded d len before)
@@ -69,13 +69,13 @@ module _ {A : Type 0} (d : A) (at : ℕ) (ys : List A) (len : ℕ) (before after
       let l : length (take end after) ≡ max len (at + length ys) = omega (arith, length-take end after, padded.within) in
       let r : length (written d at ys (take len before)) ≡ max len (at + length ys) = omega (arith, length-written d at ys (take len before), length-take len before, padded.within) in
       ext_get_or d (take end after) (written d at ys (take len before)) (l ∙ sym r) (λ k _.
-        front d end after k (padded-put end is) ∙ elim (place_of at (length ys) k) as (λ _. get_or after k d ≡ get_or (written d at ys (take len before)) k d) [
-          ahead low ↦ so.elsewhere k (inl low) ∙ sym (front d len before k padded) ∙ sym (get_or-written_before d at ys (take len before) k low)
+      front d end after k (padded-put end is) ∙ elim (place_of at (length ys) k) as (λ _. get_or after k d ≡ get_or (written d at ys (take len before)) k d) [
+        | ahead low ↦ so.elsewhere k (inl low) ∙ sym (front d len before k padded) ∙ sym (get_or-written_before d at ys (take len before) k low)
         | inside j low eq ↦
             ap (λ i. get_or after i d) (sym eq) ∙ so.there j low ∙ sym (get_or-written_there d at ys (take len before) j low)
             ∙ ap (λ i. get_or (written d at ys (take len before)) i d) eq
         | past high ↦ so.elsewhere k (inr high) ∙ sym (front d len before k padded) ∙ sym (get_or-written_behind d at ys (take len before) k high)
-        ])
+      ])
 
 -- a fill sets what the list of equal elements gives
 pub set-replicate : {A : Type 0} → {d : A} {at : ℕ} (n : ℕ) (y : A) {before after : List A}
@@ -93,13 +93,13 @@ module _ {A : Type 0} (d : A) (first end : ℕ) (len other_len : ℕ) (mine othe
     (so : SetFrom d first (end - first) (λ k. get_or other (first + k) d) mine after) where
   copied : (k : ℕ) → get_or after k d ≡ get_or other k d
   copied k = elim (place_of first (end - first) k) as (λ _. get_or after k d ≡ get_or other k d) [
-    ahead low ↦ so.elsewhere k (inl low) ∙ sym (front d len mine k padded) ∙ outside k (inl low) ∙ front d other_len other k other_padded
+    | ahead low ↦ so.elsewhere k (inl low) ∙ sym (front d len mine k padded) ∙ outside k (inl low) ∙ front d other_len other k other_padded
     | inside j low eq ↦ ap (λ i. get_or after i d) (sym eq) ∙ so.there j low ∙ ap (λ i. get_or other i d) eq
     | past high ↦ so.elsewhere k (inr high) ∙ sym (front d len mine k padded) ∙ outside k (elim (cases_lt k first) as (λ _. (k < first) ⊎ (end ≤ k)) [
-        inl low ↦ inl low
+      | inl low ↦ inl low
       | inr from ↦ inr (omega arith)
-      ]) ∙ front d other_len other k other_padded
-    ]
+    ]) ∙ front d other_len other k other_padded
+  ]
 
   pub padded-copied : IsPadded d other_len after
   padded-copied = record { within = let size = so.size in omega arith; behind = λ k above. copied k ∙ other_padded.behind k above }
@@ -108,8 +108,8 @@ module _ {A : Type 0} (d : A) (first end : ℕ) (len other_len : ℕ) (mine othe
   take-copied =
       let size = so.size in
       ext_get_or d (take other_len after) (take other_len other)
-        (omega (arith, length-take other_len after, length-take other_len other, other_padded.within))
-        (λ k _. front d other_len after k padded-copied ∙ copied k ∙ sym (front d other_len other k other_padded))
+      (omega (arith, length-take other_len after, length-take other_len other, other_padded.within))
+      (λ k _. front d other_len after k padded-copied ∙ copied k ∙ sym (front d other_len other k other_padded))
 
 -- what contracts see of the marks
 pub seen-marked : (at n : ℕ) (first end new_first new_end : ℕ) (earlier after : List Bool) (was : DirtyMarks)
@@ -129,11 +129,11 @@ pub marks-cleared : (first end none : ℕ) (earlier after : List Bool)
     → IsMarked first end earlier → SetFrom false first (end - first) (λ _. false) earlier after → IsMarked none 0 after
 marks-cleared first end none earlier after marked so =
     let all = λ (k : ℕ). elim (place_of first (end - first) k) as (λ _. get_or after k false ≡ false) [
-      ahead low ↦ so.elsewhere k (inl low) ∙ marked.clean k low
-    | inside j low eq ↦ ap (λ i. get_or after i false) (sym eq) ∙ so.there j low
-    | past high ↦ so.elsewhere k (inr high) ∙ elim (cases_lt k first) as (λ _. get_or earlier k false ≡ false) [
-        inl low ↦ marked.clean k low
-      | inr from ↦ marked.padded.behind k (omega arith)
+      | ahead low ↦ so.elsewhere k (inl low) ∙ marked.clean k low
+      | inside j low eq ↦ ap (λ i. get_or after i false) (sym eq) ∙ so.there j low
+      | past high ↦ so.elsewhere k (inr high) ∙ elim (cases_lt k first) as (λ _. get_or earlier k false ≡ false) [
+        | inl low ↦ marked.clean k low
+        | inr from ↦ marked.padded.behind k (omega arith)
       ]
     ] in
     record { padded = record { within = omega arith; behind = λ k _. all k }; clean = λ k _. all k }

@@ -1,3 +1,4 @@
 pub mod Buffers
+pub mod Images
 pub mod Torn
 pub mod Written

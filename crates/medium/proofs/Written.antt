@@ -1,6 +1,6 @@
 -- A list with a range written, element by element.
-use Rattle.std.proofs.Common.{◌≡◌, ◌⊎◌, inl, inr, ℕ, ◌+◌, ◌-◌, ◌<◌, ◌≤◌, min, max, List, [], ◌++◌, length, get_or, take, drop, replicate, sym, ◌∙◌, ap, refl, subst, arith, length-append, length-take, length-drop}
-use Rattle.std.proofs.lemmas.List.{length-replicate, ext_get_or, get_or_append_left, get_or-append_right, get_or-take, get_or-drop, get_or-replicate, get_or_past}
+use Rattle.std.proofs.Common.{◌≡◌, inl, inr, ℕ, ◌+◌, ◌-◌, ◌<◌, ◌≤◌, max, List, ◌++◌, length, get_or, take, drop, replicate, sym, ◌∙◌, ap, refl, arith, length-append, length-take, length-drop}
+use Rattle.std.proofs.lemmas.List.{length-replicate, get_or_append_left, get_or-append_right, get_or-take, get_or-drop, get_or-replicate, get_or_past}
 use Rattle.std.proofs.lemmas.Bool.{cases_lt}
 use Rattle.medium.specs.Content.{filled, written}
 
@@ -16,14 +16,14 @@ length-written d at ys xs =
 -- in front of the range
 pub get_or-filled : {A : Type 0} → (d : A) (n : ℕ) (xs : List A) (k : ℕ) → k < n → get_or (filled d n xs) k d ≡ get_or xs k d
 get_or-filled d n xs k below = elim (cases_lt k (length xs)) as (λ _. get_or (filled d n xs) k d ≡ get_or xs k d) [
-  inl inside ↦
-    get_or_append_left (take n xs) (replicate (n - length xs) d) d k (omega (arith, length-take n xs))
-    ∙ get_or-take n xs k d below
+  | inl inside ↦
+      get_or_append_left (take n xs) (replicate (n - length xs) d) d k (omega (arith, length-take n xs))
+      ∙ get_or-take n xs k d below
   | inr past ↦
-    get_or-append_right (take n xs) (replicate (n - length xs) d) (length xs) k d (omega (arith, length-take n xs)) past
-    ∙ get_or-replicate (n - length xs) (k - length xs) d d (omega arith)
-    ∙ sym (get_or_past xs k d past)
-  ]
+      get_or-append_right (take n xs) (replicate (n - length xs) d) (length xs) k d (omega (arith, length-take n xs)) past
+      ∙ get_or-replicate (n - length xs) (k - length xs) d d (omega arith)
+      ∙ sym (get_or_past xs k d past)
+]
 
 pub get_or-written_before : {A : Type 0} → (d : A) (at : ℕ) (ys xs : List A) (k : ℕ) → k < at → get_or (written d at ys xs) k d ≡ get_or xs k d
 get_or-written_before d at ys xs k below =

@@ -1,7 +1,8 @@
 -- What contracts see of the media in memory, and what a power loss leaves of a bench (this project's own).
-use Rattle.std.specs.Prelude.{◌≡◌, ℕ, ◌/◌, ◌≤◌, ◌==◌, if◌then◌else◌, max, Bool, false, List, [], ◌∷◌, length, get_or, replicate, take, Some}
+use Rattle.std.specs.Prelude.{◌≡◌, ◌↔◌, ℕ, ◌+◌, ◌-◌, ◌^◌, ◌/◌, ◌≤◌, ◌==◌, min, if◌then◌else◌, List, [], ◌∷◌, length, replicate, take, Some, Contains}
 use Rattle.medium.specs.CallsLeft.{CallsLeft, unknown, unlimited, after, exhausted}
-use Rattle.medium.specs.Content.{Content, IsImage, written}
+use Rattle.medium.specs.Buffer.{Held, IsTornImage}
+use Rattle.medium.specs.Content.{Content, written}
 use Rattle.medium.specs.State.{MediumState}
 use Rattle.medium.specs.declared.bench.Tear.{Tear}
 use Rattle.medium.specs.declared.bench.Tear.TheVariants.{Keep, New, Zero, AllOpen, Half}
@@ -15,6 +16,12 @@ pub record MemoryView : Type 0 where
   pub failing : List ℕ
   pub calls : ℕ
   pub faults : ℕ
+
+-- What a counted call does to the count: it fails exactly where its number stands in the list.
+pub record IsNumbered (old new : MemoryView) (failed : Type 0) : Type 0 where
+  pub exactly : failed ↔ Contains old.failing old.calls
+  pub next : new.calls ≡ min (old.calls + 1) (2 ^ 64 - 1)
+  pub plan : new.failing ≡ old.failing
 
 -- With no number to fail at, no call will fail.
 abbrev pub calls_left : List ℕ → CallsLeft
@@ -46,6 +53,11 @@ after_torn at bytes t = record { zero = torn_write Zero at bytes t.zero; opened 
 abbrev pub all_alike : List ℕ → Tears
 all_alike image = record { zero = image; opened = image; half = image }
 
+-- the images of the tears, and the place up to which all of them have room
+pub record TearsHeld : Type 0 where
+  pub tears : Tears
+  pub room : ℕ
+
 -- the image that a power loss leaves, by the tear
 abbrev pub image_of : Tear → Content → Tears → List ℕ
 image_of Keep c t = c.durable
@@ -62,6 +74,13 @@ pub record BenchView : Type 0 where
   pub tear : Tear
   pub power : Power
   pub faults : ℕ
+
+-- a bench's images fit its content
+pub record IsBench (held : Held) (images : TearsHeld) : Type 0 where
+  pub room : held.ready ≤ images.room
+  pub zero : IsTornImage held.content images.tears.zero
+  pub opened : IsTornImage held.content images.tears.opened
+  pub half : IsTornImage held.content images.tears.half
 
 abbrev pub left_of : Power → CallsLeft
 left_of Unarmed = unlimited

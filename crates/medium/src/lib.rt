@@ -4,10 +4,20 @@
 
 mod bench;
 mod dirty_map;
+mod file_medium;
 mod image;
 mod medium;
+mod memory_bench;
 mod memory_content;
+mod memory_medium;
 mod power;
+mod torn_images;
 
 pub use bench::{Bench, Tear};
+pub use file_medium::FileMedium;
 pub use medium::{Medium, ReserveError};
+pub use memory_bench::MemoryBench;
+pub use memory_medium::MemoryMedium;
+
+#[cfg(test)]
+mod tests;

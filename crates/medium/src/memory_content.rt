@@ -1,4 +1,4 @@
-ghost use Rattle.std.specs.Prelude.{◌≡◌, ◌+◌, ◌-◌, ◌<◌, ◌≤◌, ◌^◌, min, true, false, [], length, replicate, take, drop, IfOk, OnOk, OnErr};
+ghost use Rattle.std.specs.Prelude.{◌≡◌, ◌+◌, ◌-◌, ◌<◌, ◌≤◌, ◌^◌, min, max, true, false, [], length, replicate, take, drop, IfOk, OnOk, OnErr};
 ghost use Rattle.medium.specs.Buffer.{IsTornImage};
 ghost use Rattle.medium.specs.Content.{IsImage, after_write, after_sync, settled, written};
 
@@ -70,9 +70,9 @@ impl MemoryContent {
     pub fn reserve(&mut self, to: u64) -> Result<(), NoMemory>
         requires { to ≤ 2 ^ 62 }
         ensures content { self.new.content ≡ self.old.content }
-        ensures ready { self.old.ready ≤ self.new.ready }
         ensures most { self.new.ready ≤ 2 ^ 62 }
-        ensures enough { OnOk result (to ≤ self.new.ready) }
+        ensures ok { OnOk result (self.new.ready ≡ max self.old.ready to) }
+        ensures err { OnErr result (self.new.ready ≡ self.old.ready) }
     {
         self.reads.grow(to as usize)?;
         self.durable.grow(to as usize)?;
@@ -141,6 +141,13 @@ impl MemoryContent {
         let first = self.dirty.first();
         let end = self.dirty.end();
         self.reads.copy_span(&self.durable, first, end);
+    }
+
+    /// A read gives what it gave, and that is an image.
+    pub fn keep(&self)
+        ensures { IsImage self.now.content self.now.content.reads }
+    {
+        let _len = self.reads.len();
     }
 
     /// A read gives this image.

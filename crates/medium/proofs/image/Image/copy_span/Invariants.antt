@@ -1,4 +1,4 @@
-use Rattle.std.proofs.Common.{◌≡◌, ◌+◌, ◌-◌, ◌≤◌, max, get_or}
+use Rattle.std.proofs.Common.{◌+◌, ◌-◌, ◌≤◌, max, get_or}
 use Rattle.medium.proofs.Buffers.{SetFrom}
 use Rattle.medium.proofs.image.Image.copy_span.Given as goal
 

@@ -1,4 +1,4 @@
-use Rattle.std.proofs.Common.{◌≡◌, get_or}
+use Rattle.std.proofs.Common.{◌≡◌}
 use Rattle.medium.proofs.Buffers.{SetFrom}
 use Rattle.medium.proofs.image.Image.fill.Given as goal
 
