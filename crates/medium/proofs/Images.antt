@@ -1,12 +1,13 @@
 -- What holds of every image that a power loss may leave, weakened or taken over a sync, and runs of calls one after the
 -- other. The layers above cite these.
-use Rattle.std.proofs.Common.{◌≡◌, inl, inr, ℕ, ◌+◌, ◌-◌, ◌<◌, ◌≤◌, List, Option, Some, None, sym, ◌∙◌, ap, refl, subst, arith}
-use Rattle.std.proofs.lemmas.List.{ext_get_or}
+use Rattle.std.proofs.Common.{◌≡◌, ◌⊎◌, inl, inr, ℕ, ◌+◌, ◌-◌, ◌<◌, ◌≤◌, Bool, true, false, List, [], length, get_or, replicate, Option, Some, None, sym, ◌∙◌, ap, refl, subst, arith}
+use Rattle.std.proofs.lemmas.List.{ext_get_or, get_or_past, length-replicate}
 use Rattle.std.proofs.lemmas.Bool.{cases_lt}
 use Rattle.std.proofs.lemmas.Bool.Decides.{nat_tests}
 use Rattle.medium.specs.CallsLeft.{CallsLeft, unknown, unlimited, after, exhausted, less, Passes, Fails}
-use Rattle.medium.specs.Content.{Content, IsImage, settled, after_sync}
-use Rattle.medium.specs.State.{MediumState, EveryImage, IfTold, WasImage, Counted, told}
+use Rattle.medium.specs.Content.{Content, IsImage, settled, after_sync, after_write, written}
+use Rattle.medium.proofs.Written.{length-written, get_or-written_before, get_or-written_behind}
+use Rattle.medium.specs.State.{MediumState, EveryImage, IfTold, WasImage, TornWrite, Counted, told}
 
 -- what is durable whole stands alone
 pub image-settled : (xs image : List ℕ) → IsImage (settled xs) image → image ≡ xs
@@ -15,6 +16,41 @@ image-settled xs image is =
 
 pub settled-image : (xs : List ℕ) → IsImage (settled xs) xs
 settled-image xs = record { no_shorter = omega arith; no_longer = omega arith; stays = λ k _ _. refl }
+
+-- Two lists of bytes of one length that agree outside of a range.
+pub record SameOutside (at n : ℕ) (base image : List ℕ) : Type 0 where
+  pub size : length image ≡ length base
+  pub same : (p : ℕ) → (p < at) ⊎ (at + n ≤ p) → get_or image p 0 ≡ get_or base p 0
+
+-- An image agrees with what is durable outside of the one range that was written, or that a write which failed may have
+-- written.
+pub images-outside : (c : Content) (base : List ℕ) (at n : ℕ) → c.durable ≡ base → c.dirty ≡ written false at (replicate n true) [] → at + n ≤ length base
+    → (image : List ℕ) → IsImage c image → SameOutside at n base image
+images-outside c base at n durable dirty fits image is =
+    let marks : length c.dirty ≡ at + n = ap length dirty ∙ length-written false at (replicate n true) [] ∙ omega (arith, length-replicate n true) in
+    let ends = ap length durable in
+    let size : length image ≡ length base = omega (arith, is.no_shorter, is.no_longer) in
+    let clean = λ (p : ℕ) (out : (p < at) ⊎ (at + n ≤ p)). ap (λ (m : List Bool). get_or m p false) dirty ∙ (elim out as (λ _. get_or (written false at (replicate n true) []) p false ≡ false) [
+      | inl low ↦ get_or-written_before false at (replicate n true) [] p low
+      | inr high ↦ get_or-written_behind false at (replicate n true) [] p (omega (arith, length-replicate n true))
+    ]) in
+    record {
+      size = size;
+      same = λ p out. elim (cases_lt p (length base)) as (λ _. get_or image p 0 ≡ get_or base p 0) [
+        | inl within ↦ is.stays p (omega arith) (clean p out) ∙ ap (λ (b : List ℕ). get_or b p 0) durable
+        | inr past ↦ get_or_past image p 0 (omega arith) ∙ sym (get_or_past base p 0 past)
+      ];
+    }
+
+-- A write within the bytes changes no byte outside of its range.
+pub written-outside : (at : ℕ) (bytes base : List ℕ) → at + length bytes ≤ length base → SameOutside at (length bytes) base (written 0 at bytes base)
+written-outside at bytes base fits = record {
+  size = length-written 0 at bytes base ∙ omega arith;
+  same = λ p out. elim out as (λ _. get_or (written 0 at bytes base) p 0 ≡ get_or base p 0) [
+    | inl low ↦ get_or-written_before 0 at bytes base p low
+    | inr high ↦ get_or-written_behind 0 at bytes base p high
+  ];
+}
 
 -- a fact of every image, weakened
 pub every-map : (o : Option Content) (P Q : List ℕ → Type 0) → ((image : List ℕ) → P image → Q image) → EveryImage o P → EveryImage o Q
@@ -27,6 +63,32 @@ every-synced None synced P was done every = let Q : Option Content → Type 0 = 
 every-synced (Some c) synced P was done every =
     let Q : Option Content → Type 0 = λ s. EveryImage s P in
     subst Q (sym done) (λ image is. subst P (sym (image-settled c.reads image is)) (every c.reads was))
+
+-- a fact of the content, weakened
+pub told-map : (o : Option Content) (P Q : Content → Type 0) → ((c : Content) → P c → Q c) → IfTold o P → IfTold o Q
+told-map None P Q so p = tt
+told-map (Some c) P Q so p = so c p
+
+-- Where all that is read is durable, a write within it leaves images that differ in its range alone.
+pub record WritesWithin (at n : ℕ) (P : List ℕ → Type 0) (c : Content) : Type 0 where
+  pub rest : c ≡ settled c.reads
+  pub fits : at + n ≤ length c.reads
+  pub each : (image : List ℕ) → SameOutside at n c.reads image → P image
+
+pub images-written : (old new : Option Content) (at : ℕ) (bytes : List ℕ) (P : List ℕ → Type 0) → IfTold old (WritesWithin at (length bytes) P)
+    → new ≡ told (after_write at bytes) old → EveryImage new P
+images-written None new at bytes P within is = let Q : Option Content → Type 0 = λ o. EveryImage o P in subst Q (sym is) tt
+images-written (Some c) new at bytes P within is =
+    let Q : Option Content → Type 0 = λ o. EveryImage o P in
+    let dirty = ap (λ (d : Content). written false at (replicate (length bytes) true) d.dirty) within.rest in
+    subst Q (sym is) (λ image im. within.each image (images-outside (after_write at bytes c) c.reads at (length bytes) (ap (λ (d : Content). d.durable) within.rest) dirty within.fits image im))
+
+pub images-torn : (old new : Option Content) (at n : ℕ) (P : List ℕ → Type 0) → IfTold old (WritesWithin at n P) → TornWrite at n old new → EveryImage new P
+images-torn None new at n P within is = let Q : Option Content → Type 0 = λ o. EveryImage o P in subst Q (sym is) tt
+images-torn (Some c) new at n P within (d, is, failed) =
+    let Q : Option Content → Type 0 = λ o. EveryImage o P in
+    let dirty = failed.dirty ∙ ap (λ (e : Content). written false at (replicate n true) e.dirty) within.rest in
+    subst Q (sym is) (λ image im. within.each image (images-outside d c.reads at n (failed.durable ∙ ap (λ (e : Content). e.durable) within.rest) dirty within.fits image im))
 
 -- each image was one
 pub every-was : (o : Option Content) → EveryImage o (WasImage o)
