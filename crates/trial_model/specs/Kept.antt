@@ -57,6 +57,12 @@ pub record KeptRecords (script : Script) (outcome : Results) : Type 0 where
   pub only_once : EachDevice (λ device d. HasOnlyAcquired d) (lines_of script) outcome
   pub nothing_lost : EachDevice (λ device d. HasLostNothing d) (lines_of script) outcome
 
+-- A round delivered whole empties its batch, and a device's flash has no more records than its load allows.
+pub record HasWholeRounds (script : Script) (outcome : Results) : Type 0 where
+  pub rounds : EachConnection (λ n h c. IsWholeRound (is_known h.opening.imei (devices_of (lines_of script))) h.opening
+    (archived_of h.opening.imei outcome.devices) c) (lines_of script) outcome
+  pub room : EachDevice (λ device d. length d.flash ≤ (history_by outcome (lines_of script) device).load) (lines_of script) outcome
+
 -- The whole.
 pub record Kept (script : Script) (outcome : Results) : Type 0 where
   pub acquired : EachDevice (λ device d. IsAcquired device (history_by outcome (lines_of script) device) d) (lines_of script) outcome
@@ -68,7 +74,4 @@ pub record Kept (script : Script) (outcome : Results) : Type 0 where
   pub evidence : EachDevice (λ device d. HasEvidence outcome.connections d) (lines_of script) outcome
   pub answers : EachConnection (λ n h c. HasAnswers (lines_of script) outcome.connections (is_known h.opening.imei (devices_of (lines_of script)))
     (archived_of h.opening.imei outcome.devices) (cover_on (Who.Device h.opening.imei) (fuse_of (Who.Device h.opening.imei) h.before) h.line) n h c) (lines_of script) outcome
-  pub whole_rounds : EachConnection (λ n h c. IsWholeRound (is_known h.opening.imei (devices_of (lines_of script))) h.opening
-    (archived_of h.opening.imei outcome.devices) c) (lines_of script) outcome
-  -- a device's flash has no more records than its load allows
-  pub room : EachDevice (λ device d. length d.flash ≤ (history_by outcome (lines_of script) device).load) (lines_of script) outcome
+  pub whole_rounds : HasWholeRounds script outcome
