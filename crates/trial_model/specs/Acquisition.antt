@@ -1,7 +1,7 @@
 -- Which records a fix makes, by the fixes before (this project's own rules). For now the period alone decides, and a
 -- record is one of Codec 8 without elements; a device's distance, angle, speed and I/O settings are not looked at yet.
-use Rattle.std.specs.Prelude.{ℕ, ◌+◌, ◌==◌, ◌||◌, ◌&&◌, nat_le, not, Bool, true, List, [], ◌∷◌, ◌++◌, Option, None, Some, if◌then◌else◌}
-use Rattle.std.specs.Int.{cast_unsigned, to_be_bytes, w16, w32, w64}
+use Rattle.std.specs.Prelude.{ℕ, ◌==◌, ◌&&◌, nat_le, not, Bool, true, List, [], ◌∷◌, ◌++◌, Option, None, Some, if◌then◌else◌}
+use Rattle.std.specs.Int.{abs_diff, cast_unsigned, to_be_bytes, w16, w32, w64}
 use Rattle.avl_values.specs.Record.{Record}
 use Rattle.avl_values.specs.declared.gps.Gps.{Gps}
 use Rattle.trial_model.specs.declared.fix.Fix.{Fix}
@@ -29,7 +29,7 @@ bytes_of fix = to_be_bytes w64 fix.time ++ (0 ∷ (gps_bytes fix.gps ++ 0 ∷ 0 
 -- there is no last fix, or the times differ by at least the period; a period of 0 is switched off
 abbrev pub is_due : ℕ → Option Fix → Fix → Bool
 is_due period None fix = true
-is_due period (Some last) fix = not (period == 0) && (nat_le (last.time + period) fix.time || nat_le (fix.time + period) last.time)
+is_due period (Some last) fix = not (period == 0) && nat_le period (abs_diff fix.time last.time)
 
 -- The records of a fix, in order, and what is remembered after it.
 pub record Decided : Type 0 where

@@ -1,0 +1,7 @@
+pub mod Lines
+pub mod Numbers
+pub mod PlainFrame
+pub mod PlainLines
+pub mod PlainScript
+pub mod ReadScript
+pub mod Texts

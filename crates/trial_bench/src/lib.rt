@@ -1,0 +1,12 @@
+//! A trial plays a script with both ends of the protocol in one run, and gives its outcome. For now it plays the scripts
+//! of one device with one round at most: the two ends, the frame and the script's reader are private parts, over lists in
+//! memory. `plain_trial` carries what every trial keeps.
+#![tactic(auto)]
+
+mod fault;
+mod number;
+mod plain_line;
+mod plain_script;
+mod text;
+
+pub use fault::{PlainFault, PlainKind};
