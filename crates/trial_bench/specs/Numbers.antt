@@ -1,5 +1,5 @@
 -- Numbers and IMEIs as fields of a line (this project's own).
-use Rattle.std.specs.Prelude.{ℕ, ℤ, pos, negsuc, ◌+◌, ◌-◌, ◌*◌, ◌==◌, nat_le, ◌&&◌, ◌||◌, not, Bool, false, List, [], ◌∷◌, length, Option, Some, None, option_map, if◌then◌else◌}
+use Rattle.std.specs.Prelude.{ℕ, ℤ, pos, negsuc, ◌+◌, ◌-◌, ◌*◌, ◌==◌, nat_le, ◌&&◌, ◌||◌, not, Bool, List, drop, length, slice_index, Option, Some, None, option_map, if◌then◌else◌}
 use Rattle.std.specs.List.{fold, list_all}
 use Rattle.avl_values.specs.Imei.{is_digit}
 
@@ -13,8 +13,7 @@ value_of digits = fold with_digit 0 digits
 
 -- decimal digits without a leading zero, or `0`
 abbrev pub is_numeral : List ℕ → Bool
-is_numeral [] = false
-is_numeral (first ∷ rest) = list_all is_digit (first ∷ rest) && (not (first == 48) || (length rest == 0))
+is_numeral field = not (length field == 0) && (list_all is_digit field && (not (slice_index field 0 == 48) || (length field == 1)))
 
 -- a number from low to high
 abbrev pub number_within : ℕ → ℕ → List ℕ → Option ℕ
@@ -27,9 +26,8 @@ negative n = negsuc (n - 1)
 
 -- a number from -(limit + 1) to limit; a `-` stands only before a number that isn't 0
 abbrev pub signed_within : ℕ → List ℕ → Option ℤ
-signed_within limit [] = None
-signed_within limit (first ∷ rest) =
-    if first == 45 then option_map negative (number_within 1 (limit + 1) rest) else option_map pos (number_within 0 limit (first ∷ rest))
+signed_within limit field =
+    if slice_index field 0 == 45 then option_map negative (number_within 1 (limit + 1) (drop 1 field)) else option_map pos (number_within 0 limit field)
 
 -- 15 digits
 abbrev pub imei_of : List ℕ → Option ℕ
