@@ -16,7 +16,7 @@ abbrev pub is_numeral : List ℕ → Bool
 is_numeral field = not (length field == 0) && (list_all is_digit field && (not (slice_index field 0 == 48) || (length field == 1)))
 
 -- a number from low to high
-abbrev pub number_within : ℕ → ℕ → List ℕ → Option ℕ
+unfoldable pub number_within : ℕ → ℕ → List ℕ → Option ℕ
 number_within low high field =
     if is_numeral field && (nat_le low (value_of field) && nat_le (value_of field) high) then Some (value_of field) else None
 
@@ -25,10 +25,10 @@ abbrev pub negative : ℕ → ℤ
 negative n = negsuc (n - 1)
 
 -- a number from -(limit + 1) to limit; a `-` stands only before a number that isn't 0
-abbrev pub signed_within : ℕ → List ℕ → Option ℤ
+unfoldable pub signed_within : ℕ → List ℕ → Option ℤ
 signed_within limit field =
     if slice_index field 0 == 45 then option_map negative (number_within 1 (limit + 1) (drop 1 field)) else option_map pos (number_within 0 limit field)
 
 -- 15 digits
-abbrev pub imei_of : List ℕ → Option ℕ
+unfoldable pub imei_of : List ℕ → Option ℕ
 imei_of field = if (length field == 15) && list_all is_digit field then Some (value_of field) else None

@@ -46,8 +46,12 @@ fix_line t = do
     values = record { items = [] };
   }))
 
+-- no limit either way
+abbrev pub is_whole_round : FiveTexts → Bool
+is_whole_round t = bytes_eq t.word (codes "round") && (bytes_eq t.fourth (codes "-") && bytes_eq t.fifth (codes "-"))
+
 unfoldable pub round_line : FiveTexts → Option ScriptLine
-round_line t = if bytes_eq t.word (codes "round") && (bytes_eq t.fourth (codes "-") && bytes_eq t.fifth (codes "-")) then (do
+round_line t = if is_whole_round t then (do
   imei ← imei_of t.imei
   piece ← number_within 1 65536 t.third
   Some (Line.Round imei piece None None)) else None

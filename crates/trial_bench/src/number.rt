@@ -6,6 +6,7 @@ ghost use Rattle.trial_bench.specs.Numbers.{imei_of, is_numeral, negative, numbe
 use avl_values::Imei;
 
 /// The number from low to high that a field spells; None exactly where it spells none.
+#[tactic(auto, unfolding(crate::specs::Numbers::number_within))]
 pub fn number(low: u64, high: u64, field: &[u8]) -> Option<u64>
     ensures number { result ≡ number_within low high field.now }
     ensures range { IfSome result (λ n. n ≤ high) }
@@ -45,6 +46,7 @@ fn value(digits: &[u8]) -> Option<u64>
 }
 
 /// The number from `-(limit + 1)` to `limit` that a field spells; None exactly where it spells none.
+#[tactic(auto, unfolding(crate::specs::Numbers::signed_within, crate::specs::Numbers::number_within))]
 pub fn signed(limit: u32, field: &[u8]) -> Option<i32>
     requires { limit < 2 ^ 31 }
     ensures number { result ≡ signed_within limit field.now }
@@ -71,6 +73,7 @@ fn minus(n: u64) -> i32
 }
 
 /// The IMEI that a field spells; None exactly where it spells none.
+#[tactic(auto, unfolding(crate::specs::Numbers::imei_of))]
 pub fn imei(field: &[u8]) -> Option<Imei>
     ensures { result ≡ imei_of field.now }
 {

@@ -2,10 +2,12 @@ use Rattle.std.proofs.Common.{◌≡◌, ◌<◌, ◌^◌, true, Some, refl, ap,
 use Rattle.std.specs.List.{list_all}
 use Rattle.std.proofs.lemmas.List.Sums.{list_all-from_AllPass}
 use Rattle.avl_values.specs.Imei.{is_digit}
+use Rattle.trial_bench.specs.Numbers.{imei_of}
 use Rattle.trial_bench.proofs.Values.{imei_value}
 use Rattle.trial_bench.proofs.number.imei.Goals as goal
 
 pub returns : goal.returns
+unfolding imei_of
 returns c =
     let h = c.in_ok-imei.ensures.found.0 refl in
     let digits : list_all is_digit c.args.field.now ≡ true = list_all-from_AllPass is_digit c.args.field.now h.1 in
