@@ -1,14 +1,14 @@
 -- Which texts are scripts so far, and which line of another text is the first that isn't built: the first line that isn't
 -- skipped is a `device` line; then come `fix` lines of its IMEI, at most as many as it has slots and at most 42; then at
 -- most one `round` line of its IMEI.
-use Rattle.std.specs.Prelude.{ℕ, ◌+◌, ◌^◌, ◌==◌, nat_le, nat_lt, ◌&&◌, Bool, true, false, List, [], ◌∷◌, ◌++◌, length, Option, Some, None, Result, Ok, Err, ◌≡◌, codes, if◌then◌else◌}
+use Rattle.std.specs.Prelude.{ℕ, ◌+◌, ◌^◌, ◌==◌, nat_lt, ◌&&◌, Bool, true, false, List, [], ◌∷◌, ◌++◌, length, Option, Some, None, Result, Ok, Err, ◌≡◌, codes, is_some, if◌then◌else◌}
 use Rattle.std.specs.List.{list_all}
 use Rattle.std.specs.Str.Lines.{lines}
 use Rattle.trial_bench.specs.declared.fault.PlainFault.{PlainFault}
 use Rattle.trial_bench.specs.declared.fault.PlainFault.TheVariants as Fault
 use Rattle.trial_bench.specs.declared.fault.PlainKind.{PlainKind}
 use Rattle.trial_bench.specs.declared.fault.PlainKind.TheVariants.{NotBuilt, TextTooLong}
-use Rattle.trial_model.specs.Script.{Script}
+use Rattle.trial_model.specs.Script.{Device, Script, device_on}
 use Rattle.trial_model.specs.declared.script.ScriptLine.{ScriptLine}
 use Rattle.trial_model.specs.declared.script.ScriptLine.TheVariants as Line
 use Rattle.trial_bench.specs.Lines.{is_skipped}
@@ -30,51 +30,38 @@ is_fix (Line.Close connection) = false
 is_fix (Line.Power who) = false
 is_fix (Line.Fuse who calls tear) = false
 
--- the line is a device of this IMEI, with slots for so many records
-abbrev pub holds : ℕ → ℕ → ScriptLine → Bool
-holds imei records (Line.Device who codec slots order period distance angle speed known) = (who == imei) && nat_le records slots
-holds imei records (Line.Setting who setting) = false
-holds imei records (Line.Fix who fix) = false
-holds imei records (Line.Round who piece up down) = false
-holds imei records (Line.Drain who piece) = false
-holds imei records (Line.Late connection bytes) = false
-holds imei records (Line.Close connection) = false
-holds imei records (Line.Power who) = false
-holds imei records (Line.Fuse who calls tear) = false
+-- the device has this IMEI
+abbrev pub is_of : ℕ → Option Device → Bool
+is_of imei None = false
+is_of imei (Some d) = d.imei == imei
+
+-- the device has a slot for one more than so many records
+abbrev pub has_slot : ℕ → Option Device → Bool
+has_slot records None = false
+has_slot records (Some d) = nat_lt records d.slots
 
 -- a line that may stand behind a `device` line and these lines
 abbrev pub may_follow : ScriptLine → Script → ScriptLine → Bool
 may_follow first more (Line.Device imei codec slots order period distance angle speed known) = false
 may_follow first more (Line.Setting imei setting) = false
-may_follow first more (Line.Fix imei fix) = list_all (λ l. is_fix l.1) more && (nat_lt (length more) 42 && holds imei (length more + 1) first)
-may_follow first more (Line.Round imei piece up down) = list_all (λ l. is_fix l.1) more && holds imei 0 first
+may_follow first more (Line.Fix imei fix) = list_all (λ l. is_fix l.1) more && (nat_lt (length more) 42 && (is_of imei (device_on [] first) && has_slot (length more) (device_on [] first)))
+may_follow first more (Line.Round imei piece up down) = list_all (λ l. is_fix l.1) more && is_of imei (device_on [] first)
 may_follow first more (Line.Drain imei piece) = false
 may_follow first more (Line.Late connection bytes) = false
 may_follow first more (Line.Close connection) = false
 may_follow first more (Line.Power who) = false
 may_follow first more (Line.Fuse who calls tear) = false
 
-abbrev pub is_device : ScriptLine → Bool
-is_device (Line.Device imei codec slots order period distance angle speed known) = true
-is_device (Line.Setting imei setting) = false
-is_device (Line.Fix imei fix) = false
-is_device (Line.Round imei piece up down) = false
-is_device (Line.Drain imei piece) = false
-is_device (Line.Late connection bytes) = false
-is_device (Line.Close connection) = false
-is_device (Line.Power who) = false
-is_device (Line.Fuse who calls tear) = false
-
 -- whether a line may stand behind these
-abbrev pub may_stand : Script → ScriptLine → Bool
-may_stand [] line = is_device line
+unfoldable pub may_stand : Script → ScriptLine → Bool
+may_stand [] line = is_some (device_on [] line)
 may_stand (first ∷ more) line = may_follow first.1 more line
 
 abbrev pub not_built : ℕ → Result Script Refusal
 not_built number = Err (record { line = number; kind = NotBuilt })
 
 -- the script with one line more, where that says something that may stand there
-abbrev pub with_line : ℕ → Script → Option ScriptLine → Result Script Refusal
+unfoldable pub with_line : ℕ → Script → Option ScriptLine → Result Script Refusal
 with_line number script None = not_built number
 with_line number script (Some line) = if may_stand script line then Ok (script ++ (number, line) ∷ []) else not_built number
 

@@ -19,7 +19,7 @@ abbrev pub round_part : ℕ → Option NumberedRound → Script
 round_part imei None = []
 round_part imei (Some r) = (r.number, Line.Round imei r.piece None None) ∷ []
 
-abbrev pub plain_script_of : PlainScript → Script
+unfoldable pub plain_script_of : PlainScript → Script
 plain_script_of s = device_part s ∷ (map (fix_part s.imei) s.fixes.items ++ round_part s.imei s.round)
 
 abbrev pub script_in : Option PlainScript → Script

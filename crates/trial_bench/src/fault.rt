@@ -1,6 +1,7 @@
 ghost use Rattle.std.specs.Prelude.{◌≡◌};
 
 use avl_values::NoMemory;
+use std::alloc::AllocFailed;
 use std::error::Error;
 use std::fmt;
 
@@ -52,6 +53,16 @@ impl From<NoMemory> for PlainFault {
     ghost from_gives = { λ _ fault. fault ≡ Fault.NoMemory };
 
     fn from(_e: NoMemory) -> PlainFault {
+        PlainFault::NoMemory
+    }
+}
+
+impl<T: Drop> From<AllocFailed<T>> for PlainFault {
+    ghost use Rattle.trial_bench.specs.declared.fault.PlainFault.TheVariants as Fault;
+
+    ghost from_gives = { λ _ fault. fault ≡ Fault.NoMemory };
+
+    fn from(_e: AllocFailed<T>) -> PlainFault {
         PlainFault::NoMemory
     }
 }

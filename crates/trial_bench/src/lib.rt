@@ -7,6 +7,7 @@ mod fault;
 mod number;
 mod plain_line;
 mod plain_script;
+mod reader;
 mod text;
 
 pub use fault::{PlainFault, PlainKind};
