@@ -8,6 +8,7 @@ mod number;
 mod plain_line;
 mod plain_script;
 mod reader;
+mod record;
 mod text;
 
 pub use fault::{PlainFault, PlainKind};
