@@ -18,12 +18,12 @@ abbrev pub powered_up : Watching
 powered_up = record { last = None; watched = [] }
 
 -- Longitude, latitude, altitude, angle, satellites, speed (Teltonika, Data Sending Protocols, GPS element).
-abbrev pub gps_bytes : Gps → List ℕ
+unfoldable pub gps_bytes : Gps → List ℕ
 gps_bytes gps = to_be_bytes w32 (cast_unsigned w32 gps.longitude) ++ (to_be_bytes w32 (cast_unsigned w32 gps.latitude)
   ++ (to_be_bytes w16 (cast_unsigned w16 gps.altitude) ++ (to_be_bytes w16 gps.angle ++ (gps.satellites ∷ to_be_bytes w16 gps.speed))))
 
 -- a record with priority 0, event 0 and no elements (Teltonika, Data Sending Protocols, Codec 8)
-abbrev pub bytes_of : Fix → List ℕ
+unfoldable pub bytes_of : Fix → List ℕ
 bytes_of fix = to_be_bytes w64 fix.time ++ (0 ∷ (gps_bytes fix.gps ++ 0 ∷ 0 ∷ 0 ∷ 0 ∷ 0 ∷ 0 ∷ []))
 
 -- there is no last fix, or the times differ by at least the period; a period of 0 is switched off
