@@ -6,3 +6,4 @@ pub mod PlainScript
 pub mod ReadLine
 pub mod ReadScript
 pub mod Texts
+pub mod Tracker

@@ -4,11 +4,13 @@
 #![tactic(auto)]
 
 mod fault;
+mod frame;
 mod number;
 mod plain_line;
 mod plain_script;
 mod reader;
 mod record;
+mod tracker;
 mod text;
 
 pub use fault::{PlainFault, PlainKind};
