@@ -1,3 +1,4 @@
+pub mod Bodies
 pub mod Reading
 pub mod Records
 pub mod Splits

@@ -11,6 +11,7 @@ mod plain_script;
 mod reader;
 mod record;
 mod tracker;
+mod server;
 mod text;
 
 pub use fault::{PlainFault, PlainKind};
