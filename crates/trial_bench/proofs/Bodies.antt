@@ -91,11 +91,18 @@ body_is_plain records h some few =
 pub body_bound : (body : List ℕ) → is_plain_body body ≡ true → length body ≤ 7653
 body_bound body h =
     let n = count_of body in
-    let front = (both _ _ (both _ _ h).0).0 in
-    let size : length body ≡ 30 * n + 3 = eqb-true _ _ (both _ _ front).1 in
-    let few : nat_le n 255 ≡ true = (both _ _ (both _ _ front).0).1 in
+    let few_is : Bool = nat_le 1 n && nat_le n 255 in
+    let size_is : Bool = length body == 30 * n + 3 in
+    let head_is : Bool = bytes_eq (take 2 body) (8 ∷ n ∷ []) in
+    let rest_is : Bool = list_all is_plain_record (pieces n (drop 2 body)) && bytes_eq (drop (30 * n + 2) body) (n ∷ []) in
+    let sized = (both (few_is && size_is) head_is (both (few_is && size_is && head_is) rest_is h).0).0 in
+    let size = eqb-true (length body) (30 * n + 3) (both few_is size_is sized).1 in
+    let few = (both (nat_le 1 n) (nat_le n 255) (both few_is size_is sized).0).1 in
     let bound : n ≤ 255 = grind (arith, nat_tests) in
     omega (arith, size, bound)
+
+pub body_small : (records : List Record) → ArePlain records → length records ≤ 255 → length (body_of records) ≤ 7653
+body_small records h few = omega (arith, body_size records h)
 
 -- the body of its frame
 pub frame_body : (body : List ℕ) → length body < 2 ^ 32 → body_at (frame_of body) ≡ body

@@ -1,6 +1,6 @@
 ghost use Rattle.std.specs.Prelude.{◌≡◌, ◌^◌, ◌<◌, ◌≤◌, length, IfOk};
 ghost use Rattle.avl_values.specs.Viewed.{records_of};
-ghost use Rattle.trial_bench.specs.PlainFrame.{body_of};
+ghost use Rattle.trial_bench.specs.PlainFrame.{ArePlain, body_of};
 ghost use Rattle.trial_model.specs.Frames.{body_at, frame_of, login_of};
 
 use avl_values::{Imei, NoMemory, Rec};
@@ -44,6 +44,16 @@ pub fn write_frame(alloc: Global, body: &[u8]) -> Result<Vec<u8>, NoMemory>
     frame.extend_from_slice(&[0; 2])?;
     frame.extend_from_slice(&crc(body).to_be_bytes())?;
     Ok(frame)
+}
+
+/// The frame of a packet of these records.
+pub fn write_packet(alloc: Global, recs: &[Rec]) -> Result<Vec<u8>, NoMemory>
+    requires plain { ArePlain (records_of recs.now) }
+    requires few { length recs.now ≤ 255 }
+    ensures { IfOk result (λ frame. frame.items ≡ frame_of (body_of (records_of recs.now))) }
+{
+    let body = write_body(alloc, recs)?;
+    write_frame(alloc, &body)
 }
 
 /// The body that the length field of a frame tells.

@@ -3,6 +3,7 @@
 //! memory. `plain_trial` carries what every trial keeps.
 #![tactic(auto)]
 
+mod connection;
 mod fault;
 mod frame;
 mod number;
@@ -11,7 +12,12 @@ mod plain_script;
 mod reader;
 mod record;
 mod tracker;
+mod trial;
 mod server;
 mod text;
 
 pub use fault::{PlainFault, PlainKind};
+pub use trial::plain_trial;
+
+#[cfg(test)]
+mod tests;

@@ -1,3 +1,5 @@
+ghost use Rattle.std.specs.Prelude.{◌≤◌, vec_len};
+
 use avl_values::Imei;
 use trial_model::Fix;
 
@@ -26,4 +28,5 @@ pub struct PlainScript {
     pub period: u64,
     pub fixes: Vec<NumberedFix>,
     pub round: Option<NumberedRound>,
+    ghost few: { vec_len fixes ≤ 42 },
 }

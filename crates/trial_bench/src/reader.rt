@@ -1,4 +1,4 @@
-ghost use Rattle.std.specs.Prelude.{◌≡◌, ℕ, true, IfOk, IfErr};
+ghost use Rattle.std.specs.Prelude.{◌≡◌, ◌<◌, ℕ, true, IfOk, IfErr, IsTrue, vec_len};
 ghost use Rattle.avl_values.specs.declared.codec.Codec.TheVariants.{C8};
 ghost use Rattle.trial_model.specs.declared.order.Order.TheVariants.{Oldest};
 ghost use Rattle.trial_bench.specs.Lines.{is_skipped};
@@ -129,7 +129,8 @@ fn with_fix(mut script: PlainScript, number: u32, imei: Imei, fix: Fix) -> Resul
 // Fixes come before a round, and fill neither the flash nor a packet.
 #[tactic(auto, using(crate::proofs::Reading::may_fix))]
 fn takes_fix(script: &PlainScript, imei: Imei) -> bool
-    ensures { (fix : AnyFix) → result ≡ may_stand (plain_script_of script.now) (Entry.Fix imei fix) }
+    ensures takes { (fix : AnyFix) → result ≡ may_stand (plain_script_of script.now) (Entry.Fix imei fix) }
+    ensures room { IsTrue result → vec_len script.now.fixes < 42 }
 {
     let fixes = script.fixes.len();
     script.round.is_none() && fixes < MOST_FIXES && script.imei == imei && fixes < script.slots as usize
