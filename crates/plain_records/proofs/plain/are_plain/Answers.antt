@@ -1,7 +1,7 @@
 use Rattle.std.proofs.Common.{◌≡◌, ◌≤◌, ◌*◌, ◌-◌, length, take, false, true, arith}
-use Rattle.record_codecs.specs.SomeRecord.{is_plain_record}
-use Rattle.record_codecs.proofs.Pieces.{pieces_none, pieces_some}
-use Rattle.record_codecs.proofs.plain.are_plain.Goals as goal
+use Rattle.plain_records.specs.SomeRecord.{is_plain_record}
+use Rattle.plain_records.proofs.Pieces.{pieces_none, pieces_some}
+use Rattle.plain_records.proofs.plain.are_plain.Goals as goal
 
 pub returns-then-not-is_plain : goal.returns-then-not-is_plain
 returns-then-not-is_plain c =

@@ -5,7 +5,7 @@ use Rattle.std.specs.List.{list_all}
 use Rattle.std.specs.Str.{bytes_eq}
 use Rattle.avl_values.specs.Record.{Record}
 use Rattle.avl_values.specs.declared.codec.Codec.TheVariants.{C8}
-use Rattle.record_codecs.specs.SomeRecord.{is_plain_record}
+use Rattle.plain_records.specs.SomeRecord.{is_plain_record}
 
 -- the first so many pieces of 30 bytes
 unfoldable pub pieces : ℕ → List ℕ → List (List ℕ)

@@ -1,6 +1,6 @@
 -- Cutting bytes into pieces, one piece after the other.
 use Rattle.std.proofs.Common.{◌≡◌, ℕ, zero, suc, ◌<◌, ◌-◌, List, [], ◌∷◌, take, drop, sub-one, refl, arith}
-use Rattle.record_codecs.specs.PlainBody.{pieces}
+use Rattle.plain_records.specs.PlainBody.{pieces}
 
 pub pieces_some : (n : ℕ) (xs : List ℕ) → 0 < n → pieces n xs ≡ take 30 xs ∷ pieces (n - 1) (drop 30 xs)
 unfolding pieces

@@ -1,7 +1,7 @@
 ghost use Rattle.std.specs.Prelude.{◌≡◌, ◌≤◌, ◌*◌, ◌↔◌, IsTrue, length};
 ghost use Rattle.std.specs.List.{list_all};
-ghost use Rattle.record_codecs.specs.PlainBody.{pieces, plain_count_of};
-ghost use Rattle.record_codecs.specs.SomeRecord.{IsSomeRecord, is_plain_record};
+ghost use Rattle.plain_records.specs.PlainBody.{pieces, plain_count_of};
+ghost use Rattle.plain_records.specs.SomeRecord.{IsSomeRecord, is_plain_record};
 
 use avl_values::Codec;
 
