@@ -1,0 +1,2 @@
+pub mod RecordCursor
+pub mod SomeRecord

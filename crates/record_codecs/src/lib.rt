@@ -1,0 +1,13 @@
+//! AVL records and data bodies of Codec 8, Codec 8 Extended and Codec 16 as code: a body judged to its first fault, whole or
+//! byte by byte; its records and what each says, as slices of the body; records spelled from values, and bodies made of
+//! records.
+#![tactic(auto)]
+
+mod in_record;
+mod number;
+mod record;
+mod verdict;
+
+pub use record::is_record;
+pub use record_layout::PacketHead;
+pub use verdict::Scan;
