@@ -1,2 +1,3 @@
+pub mod BodyCursor
 pub mod RecordCursor
 pub mod SomeRecord

@@ -3,6 +3,7 @@
 //! records.
 #![tactic(auto)]
 
+mod cursor;
 mod in_record;
 mod number;
 mod record;
