@@ -60,7 +60,7 @@ falls_in at next w rest back fits is none turns =
     grind (arith)
 
 -- only a field of no bytes has weight
-none_is : (n : ℕ) → 0 < n → Some n ≡ Some 0 → ⊥
+pub none_is : (n : ℕ) → 0 < n → Some n ≡ Some 0 → ⊥
 none_is n some e = let z : n ≡ 0 = cc in omega arith
 
 some_width : (w : Width) → 0 < bytes_of w

@@ -1,3 +1,4 @@
 pub mod BodyCursor
 pub mod RecordCursor
 pub mod SomeRecord
+pub mod Verdicts

@@ -7,8 +7,10 @@ mod cursor;
 mod in_record;
 mod number;
 mod record;
+mod scanning;
 mod verdict;
 
 pub use record::is_record;
 pub use record_layout::PacketHead;
+pub use scanning::{read_packet, scan};
 pub use verdict::Scan;
