@@ -41,11 +41,11 @@ pub missing_at : (total place w : ℕ) (have rest : List ℕ) (at : Cursor) → 
 missing_at total place w have rest at judged width fits few = sym (judged ∙ body_missing (rows_at at) w (total - place) place rest width fits few)
 
 pub failed_at : (total place w : ℕ) (have rest : List ℕ) (at : Cursor) (kind : FaultKind) → JudgedAt total have at place rest → width_of (rows_at at) ≡ Some w → w ≤ total - place → w ≤ length rest
-  → Follows (rows_at at) (take w rest) (Err kind) → fault kind place ≡ packet_verdict total have
+    → Follows (rows_at at) (take w rest) (Err kind) → fault kind place ≡ packet_verdict total have
 failed_at total place w have rest at kind judged width fits long fails = sym (judged ∙ body_fault (rows_at at) w (total - place) place kind rest width fits long fails)
 
 pub judged_next : (total place w : ℕ) (have rest back : List ℕ) (at next : Cursor) → JudgedAt total have at place rest → width_of (rows_at at) ≡ Some w → w ≤ total - place → w ≤ length rest
-  → Follows (rows_at at) (take w rest) (Ok next) → back ≡ drop w rest → JudgedAt total have next (place + w) back
+    → Follows (rows_at at) (take w rest) (Ok next) → back ≡ drop w rest → JudgedAt total have next (place + w) back
 judged_next total place w have rest back at next judged width fits long follows is =
     let n : total - place - w ≡ total - (place + w) = omega arith in
     judged ∙ body_on (rows_at at) w (total - place) place rest width fits long follows.0

@@ -62,11 +62,12 @@ pub field_fails : (head : PacketHead) (left : ℕ) (r : InRecord) (field : List 
 field_fails head left r field kind fails = let w = in_width r in follow_rule (rows_in r) (λ _. records_left head left) w.0 field w.1 ∙ fails
 
 pub field_follows : (head : PacketHead) (left : ℕ) (r : InRecord) (field : List ℕ) (next : Option InRecord) (to : Cursor) → FollowsIn (rows_in r) field (Ok next)
-  → rows_at to ≡ followed_by (rows_from next) (λ _. records_left head left) → Follows (rows_at (cursor.Record head left r)) field (Ok to)
+    → rows_at to ≡ followed_by (rows_from next) (λ _. records_left head left) → Follows (rows_at (cursor.Record head left r)) field (Ok to)
 field_follows head left r field next to follows rows =
-    let w = in_width r in
-    (follow_rule (rows_in r) (λ _. records_left head left) w.0 field w.1 ∙ follows.0,
-     follow_after (rows_in r) (λ _. records_left head left) w.0 field w.1 ∙ ap (λ k. followed_by k (λ _. records_left head left)) follows.1 ∙ sym rows)
+    let w = in_width r in (
+      follow_rule (rows_in r) (λ _. records_left head left) w.0 field w.1 ∙ follows.0,
+      follow_after (rows_in r) (λ _. records_left head left) w.0 field w.1 ∙ ap (λ k. followed_by k (λ _. records_left head left)) follows.1 ∙ sym rows,
+    )
 
 pub after_records : (head : PacketHead) (left : ℕ) (to : Cursor) → rows_at to ≡ records_left head left → rows_at to ≡ followed_by (rows_from None) (λ _. records_left head left)
 after_records head left to e = e ∙ sym (follow_done (tt {0}) (λ _. records_left head left))

@@ -41,11 +41,11 @@ pub front_width : (rows : Rows (Unit {0})) (w : ℕ) (rest : List ℕ) → width
 front_width rows w rest width fits = let n : length (take w rest) ≡ w = omega (arith, length-take w rest) in ap (λ k. Some k) n ∙ sym width
 
 pub failed_in : (codec : Codec) (bytes : List ℕ) (at : InRecord) (place w : ℕ) (rest : List ℕ) (kind : FaultKind) → JudgedIn codec bytes at place rest → width_of (rows_in at) ≡ Some w → w ≤ length rest
-  → FollowsIn (rows_in at) (take w rest) (Err kind) → None ≡ first_record codec bytes
+    → FollowsIn (rows_in at) (take w rest) (Err kind) → None ≡ first_record codec bytes
 failed_in codec bytes at place w rest kind judged width fits fails = sym (ap end_of (judged ∙ step_fault (rows_in at) w place kind rest width fits fails))
 
 pub judged_from : (codec : Codec) (bytes : List ℕ) (at : InRecord) (place w : ℕ) (rest back : List ℕ) (next : Option InRecord) → JudgedIn codec bytes at place rest → width_of (rows_in at) ≡ Some w → w ≤ length rest
-  → FollowsIn (rows_in at) (take w rest) (Ok next) → back ≡ drop w rest → judge (lone_record codec) 0 bytes ≡ judge (rows_from next) (place + w) back
+    → FollowsIn (rows_in at) (take w rest) (Ok next) → back ≡ drop w rest → judge (lone_record codec) 0 bytes ≡ judge (rows_from next) (place + w) back
 judged_from codec bytes at place w rest back next judged width fits follows is =
     judged ∙ step_on (rows_in at) w place rest width fits follows.0 ∙ ap (λ r. judge r (place + w) (drop w rest)) follows.1 ∙ ap (λ b. judge (rows_from next) (place + w) b) (sym is)
 

@@ -67,38 +67,40 @@ unfolding parts_rows
 plain_turn r w p field next is rows = subst (λ q. FollowsIn (rows_in (at.Part r q)) field (Ok next)) (sym is) (refl, sym rows)
 
 pub total_turn : (r : RecordState) (w : Width) (p : Part) (field : List ℕ) (value : ℕ) (next : Option InRecord) → p ≡ Total w → Some (length field) ≡ width_of (rows_in (at.Part r p)) → Reads field value
-  → rows_from next ≡ parts_left (record r { total = value }) → FollowsIn (rows_in (at.Part r p)) field (Ok next)
+    → rows_from next ≡ parts_left (record r { total = value }) → FollowsIn (rows_in (at.Part r p)) field (Ok next)
 unfolding parts_rows
 total_turn r w p field value next is width reads rows =
     let n = value_is r p field value width reads in
     subst (λ q. FollowsIn (rows_in (at.Part r q)) field (Ok next)) (sym is) (refl, ap (λ k. parts_left (record r { total = k })) n ∙ sym rows)
 
 pub pairs_turn : (r : RecordState) (c i w : Width) (p : Part) (field : List ℕ) (value counted : ℕ) (next : Option InRecord) → p ≡ Pairs c i w → Some (length field) ≡ width_of (rows_in (at.Part r p)) → Reads field value
-  → Some counted ≡ counted_with (drop r.part (parts_of r.codec)) r.total (r.counted + value) → rows_from next ≡ times value (pair_rows i w) (parts_left (record r { counted = counted }))
-  → FollowsIn (rows_in (at.Part r p)) field (Ok next)
+    → Some counted ≡ counted_with (drop r.part (parts_of r.codec)) r.total (r.counted + value) → rows_from next ≡ times value (pair_rows i w) (parts_left (record r { counted = counted }))
+    → FollowsIn (rows_in (at.Part r p)) field (Ok next)
 unfolding parts_rows
 pairs_turn r c i w p field value counted next is width reads passes rows =
     let n = value_is r p field value width reads in
     let ps = drop r.part (parts_of r.codec) in
     let q = rule_passes (count_rule ps r.total (r.counted + value)) (r.counted + value) counted passes in
-    subst (λ q. FollowsIn (rows_in (at.Part r q)) field (Ok next)) (sym is)
-      (ap (λ k. count_rule ps r.total (r.counted + k)) n ∙ q.0,
-       ap (λ k. times k (pair_rows i w) (parts_left (record r { counted = r.counted + k }))) n ∙ ap (λ k. times value (pair_rows i w) (parts_left (record r { counted = k }))) (sym q.1) ∙ sym rows)
+    subst (λ q. FollowsIn (rows_in (at.Part r q)) field (Ok next)) (sym is) (
+      ap (λ k. count_rule ps r.total (r.counted + k)) n ∙ q.0,
+      ap (λ k. times k (pair_rows i w) (parts_left (record r { counted = r.counted + k }))) n ∙ ap (λ k. times value (pair_rows i w) (parts_left (record r { counted = k }))) (sym q.1) ∙ sym rows,
+    )
 
 pub triples_turn : (r : RecordState) (c i w : Width) (p : Part) (field : List ℕ) (value counted : ℕ) (next : Option InRecord) → p ≡ Triples c i w → Some (length field) ≡ width_of (rows_in (at.Part r p)) → Reads field value
-  → Some counted ≡ counted_with (drop r.part (parts_of r.codec)) r.total (r.counted + value) → rows_from next ≡ times value (triple_rows i w) (parts_left (record r { counted = counted }))
-  → FollowsIn (rows_in (at.Part r p)) field (Ok next)
+    → Some counted ≡ counted_with (drop r.part (parts_of r.codec)) r.total (r.counted + value) → rows_from next ≡ times value (triple_rows i w) (parts_left (record r { counted = counted }))
+    → FollowsIn (rows_in (at.Part r p)) field (Ok next)
 unfolding parts_rows
 triples_turn r c i w p field value counted next is width reads passes rows =
     let n = value_is r p field value width reads in
     let ps = drop r.part (parts_of r.codec) in
     let q = rule_passes (count_rule ps r.total (r.counted + value)) (r.counted + value) counted passes in
-    subst (λ q. FollowsIn (rows_in (at.Part r q)) field (Ok next)) (sym is)
-      (ap (λ k. count_rule ps r.total (r.counted + k)) n ∙ q.0,
-       ap (λ k. times k (triple_rows i w) (parts_left (record r { counted = r.counted + k }))) n ∙ ap (λ k. times value (triple_rows i w) (parts_left (record r { counted = k }))) (sym q.1) ∙ sym rows)
+    subst (λ q. FollowsIn (rows_in (at.Part r q)) field (Ok next)) (sym is) (
+      ap (λ k. count_rule ps r.total (r.counted + k)) n ∙ q.0,
+      ap (λ k. times k (triple_rows i w) (parts_left (record r { counted = r.counted + k }))) n ∙ ap (λ k. times value (triple_rows i w) (parts_left (record r { counted = k }))) (sym q.1) ∙ sym rows,
+    )
 
 pub pairs_fail : (r : RecordState) (c i w : Width) (p : Part) (field : List ℕ) (value : ℕ) → p ≡ Pairs c i w → Some (length field) ≡ width_of (rows_in (at.Part r p)) → Reads field value
-  → None ≡ counted_with (drop r.part (parts_of r.codec)) r.total (r.counted + value) → FollowsIn (rows_in (at.Part r p)) field (Err TotalMismatch)
+    → None ≡ counted_with (drop r.part (parts_of r.codec)) r.total (r.counted + value) → FollowsIn (rows_in (at.Part r p)) field (Err TotalMismatch)
 unfolding parts_rows
 pairs_fail r c i w p field value is width reads fails =
     let n = value_is r p field value width reads in
@@ -106,7 +108,7 @@ pairs_fail r c i w p field value is width reads fails =
     subst (λ q. FollowsIn (rows_in (at.Part r q)) field (Err TotalMismatch)) (sym is) (ap (λ k. count_rule ps r.total (r.counted + k)) n ∙ rule_fails ps r.total (r.counted + value) fails)
 
 pub triples_fail : (r : RecordState) (c i w : Width) (p : Part) (field : List ℕ) (value : ℕ) → p ≡ Triples c i w → Some (length field) ≡ width_of (rows_in (at.Part r p)) → Reads field value
-  → None ≡ counted_with (drop r.part (parts_of r.codec)) r.total (r.counted + value) → FollowsIn (rows_in (at.Part r p)) field (Err TotalMismatch)
+    → None ≡ counted_with (drop r.part (parts_of r.codec)) r.total (r.counted + value) → FollowsIn (rows_in (at.Part r p)) field (Err TotalMismatch)
 unfolding parts_rows
 triples_fail r c i w p field value is width reads fails =
     let n = value_is r p field value width reads in

@@ -14,3 +14,6 @@ pub use record::is_record;
 pub use record_layout::PacketHead;
 pub use scanning::{read_packet, scan};
 pub use verdict::Scan;
+
+#[cfg(test)]
+mod tests;

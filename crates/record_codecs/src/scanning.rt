@@ -22,13 +22,19 @@ pub fn scan(have: &[u8], total: u32) -> Scan
         match cursor.left() {
             Left::Nothing(head) => {
                 if room > 0 {
-                    return Scan::Broken(Fault { kind: FaultKind::Excess, place });
+                    return Scan::Broken(Fault {
+                        kind: FaultKind::Excess,
+                        place,
+                    });
                 }
                 return Scan::Whole(head);
             }
             Left::Field(width) => {
                 if width > u64::from(room) {
-                    return Scan::Broken(Fault { kind: FaultKind::Overrun, place });
+                    return Scan::Broken(Fault {
+                        kind: FaultKind::Overrun,
+                        place,
+                    });
                 }
                 let width = width as usize;
                 if rest.len() < width {

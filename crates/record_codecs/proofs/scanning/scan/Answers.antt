@@ -30,18 +30,19 @@ returns-in-Err c =
     let fits : w ≤ c.args.total - c.fields.place = omega (arith, c.if-width-from.false, c.from.ensures) in
     let long : w ≤ length rest = omega (arith, c.if-rest-width.false) in
     failed_at c.args.total c.fields.place w c.args.have.now rest c.fields.cursor c.in-Err.kind c.fields.invariant.0 c.in-Field.ensures fits long
-      (c.in-Err.ensures.follows (take w rest) (body_width_is (rows_at c.fields.cursor) w rest c.in-Field.ensures long) (front_reads w c.number.result rest c.split_at.result.0.now c.split_at.ensures.front c.number.ensures.value))
+    (c.in-Err.ensures.follows (take w rest) (body_width_is (rows_at c.fields.cursor) w rest c.in-Field.ensures long) (front_reads w c.number.result rest c.split_at.result.0.now c.split_at.ensures.front c.number.ensures.value))
 
 pub fields-preserved : goal.fields-preserved
 fields-preserved c =
     let w = c.in-Field.width in
     let rest = c.fields.rest.now in
     let fits : w ≤ c.args.total - c.fields.place = omega (arith, c.if-width-from.false, c.from.ensures) in
-    let long : w ≤ length rest = omega (arith, c.if-rest-width.false) in
-    (judged_next c.args.total c.fields.place w c.args.have.now rest c.split_at.result.1.now c.fields.cursor c.in-Ok.next c.fields.invariant.0 c.in-Field.ensures fits long
-      (c.in-Ok.ensures.follows (take w rest) (body_width_is (rows_at c.fields.cursor) w rest c.in-Field.ensures long) (front_reads w c.number.result rest c.split_at.result.0.now c.split_at.ensures.front c.number.ensures.value))
-      c.split_at.ensures.back,
-     omega (arith, c.fields.invariant.1, c.split_at.ensures.back_len))
+    let long : w ≤ length rest = omega (arith, c.if-rest-width.false) in (
+      judged_next c.args.total c.fields.place w c.args.have.now rest c.split_at.result.1.now c.fields.cursor c.in-Ok.next c.fields.invariant.0 c.in-Field.ensures fits long
+          (c.in-Ok.ensures.follows (take w rest) (body_width_is (rows_at c.fields.cursor) w rest c.in-Field.ensures long) (front_reads w c.number.result rest c.split_at.result.0.now c.split_at.ensures.front c.number.ensures.value))
+          c.split_at.ensures.back,
+      omega (arith, c.fields.invariant.1, c.split_at.ensures.back_len),
+    )
 
 pub fields-smaller : goal.fields-smaller
 fields-smaller c =
@@ -49,4 +50,4 @@ fields-smaller c =
     let rest = c.fields.rest.now in
     let long : w ≤ length rest = omega (arith, c.if-rest-width.false) in
     falls_at c.fields.cursor c.in-Ok.next w rest c.split_at.result.1.now long c.split_at.ensures.back
-      (λ none. no_field c.fields.cursor (c.in-Field.ensures ∙ ap (λ k. Some k) none)) c.in-Ok.ensures.turns
+    (λ none. no_field c.fields.cursor (c.in-Field.ensures ∙ ap (λ k. Some k) none)) c.in-Ok.ensures.turns

@@ -8,9 +8,10 @@ use Rattle.record_codecs.proofs.cursor.Cursor.left.Goals as goal
 
 pub returns-in-Codec : goal.returns-in-Codec
 returns-in-Codec c =
-    elim c.in-Codec.is
-      [ inl e ↦ ap (λ s. width_of (rows_at s)) e ∙ packet_width
-      | inr other ↦ elim other [ inl e ↦ ap (λ s. width_of (rows_at s)) e.1 | inr e ↦ ap (λ s. width_of (rows_at s)) e.1 ] ]
+    elim c.in-Codec.is [
+      | inl e ↦ ap (λ s. width_of (rows_at s)) e ∙ packet_width
+      | inr other ↦ elim other [ inl e ↦ ap (λ s. width_of (rows_at s)) e.1 | inr e ↦ ap (λ s. width_of (rows_at s)) e.1 ]
+    ]
 
 pub returns-in-Record : goal.returns-in-Record
 returns-in-Record c =
