@@ -1,21 +1,17 @@
 -- A body's cursor over bytes: each field on the way to the body's end, to its last byte so far or to a rule that fails.
-use Rattle.std.proofs.Common.{◌≡◌, ℕ, zero, ◌+◌, ◌-◌, ◌*◌, ◌<◌, ◌≤◌, List, [], ◌∷◌, length, take, drop, Option, Some, None, Ok, Err, refl, sym, ap, subst, ◌∙◌, arith, length-take, length-drop}
+use Rattle.std.proofs.Common.{◌≡◌, ℕ, ◌+◌, ◌-◌, ◌*◌, ◌<◌, ◌≤◌, List, length, take, drop, Some, Ok, Err, sym, ap, ◌∙◌, arith, length-take, length-drop}
 use Rattle.avl_values.specs.declared.fault.FaultKind.{FaultKind}
 use Rattle.avl_values.specs.declared.fault.FaultKind.TheVariants.{Overrun, Excess}
-use Rattle.layout.specs.Rows.{Rows, Verdict, done, judge, body, short, fault, whole}
-use Rattle.layout.specs.Fields.{number}
-use Rattle.layout.specs.Next.{width_of, rule_of, rows_after}
+use Rattle.layout.specs.Rows.{Rows, done, judge, body, short, fault, whole}
+use Rattle.layout.specs.Next.{width_of}
 use Rattle.layout.proofs.NestedLaws.{body_short}
 use Rattle.layout.proofs.Stepping.{body_overrun, body_missing, body_on, body_fault, body_whole, body_excess}
 use Rattle.record_layout.specs.declared.head.PacketHead.{PacketHead}
 use Rattle.record_layout.specs.PacketRows.{packet_rows, packet_verdict}
 use Rattle.record_codecs.specs.declared.cursor.Cursor.{Cursor}
 use Rattle.record_codecs.specs.declared.cursor.Cursor.TheVariants as cursor
-use Rattle.record_codecs.specs.declared.cursor.Left.TheVariants as left
-use Rattle.record_codecs.specs.BodyCursor.{rows_at, weight, HasLeft, Follows}
-use Rattle.record_codecs.specs.RecordCursor.{Reads, weight_in}
-use Rattle.record_codecs.specs.RecordCursor.{rows_in}
-use Rattle.record_codecs.proofs.BodyTurns.{packet_width, in_width, same_width}
+use Rattle.record_codecs.specs.BodyCursor.{rows_at, weight, Follows}
+use Rattle.record_codecs.proofs.BodyTurns.{packet_width, same_width}
 use Rattle.record_codecs.proofs.RecordSteps.{no_width, none_is}
 
 -- what is left of the body is judged from here on

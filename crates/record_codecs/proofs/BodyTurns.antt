@@ -1,24 +1,22 @@
 -- A body's cursor, field by field.
-use Rattle.std.proofs.Common.{◌≡◌, ℕ, zero, suc, ◌+◌, ◌-◌, ◌<◌, ◌≤◌, List, length, Option, Some, None, Result, Ok, Err, refl, sym, ap, subst, ◌∙◌, arith}
+use Rattle.std.proofs.Common.{◌≡◌, ℕ, suc, List, Option, Some, None, Ok, Err, refl, sym, ap, ◌∙◌}
 use Rattle.avl_values.specs.Codec.{codec_of}
 use Rattle.avl_values.specs.Width.{bytes_of}
 use Rattle.avl_values.specs.declared.codec.Codec.{Codec}
 use Rattle.avl_values.specs.declared.fault.FaultKind.{FaultKind}
 use Rattle.avl_values.specs.declared.fault.FaultKind.TheVariants.{UnknownCodec}
-use Rattle.layout.specs.Rows.{Rows}
-use Rattle.layout.specs.Fields.{number, times, followed_by}
-use Rattle.layout.specs.Next.{width_of, rule_of, rows_after}
+use Rattle.layout.specs.Fields.{number, followed_by}
+use Rattle.layout.specs.Next.{width_of}
 use Rattle.layout.proofs.Following.{follow_done, follow_width, follow_rule, follow_after}
 use Rattle.record_layout.specs.declared.head.PacketHead.{PacketHead}
-use Rattle.record_layout.specs.PacketRows.{after_codec, packet_rows, codec_rule, with_codec}
-use Rattle.record_layout.specs.RecordRows.{lone_record, record_rows}
-use Rattle.record_layout.specs.Table.{parts_of}
+use Rattle.record_layout.specs.PacketRows.{packet_rows, codec_rule, with_codec}
+use Rattle.record_layout.specs.RecordRows.{lone_record}
 use Rattle.record_layout.proofs.Following.{record_follows}
 use Rattle.record_codecs.specs.declared.cursor.Cursor.{Cursor}
 use Rattle.record_codecs.specs.declared.cursor.Cursor.TheVariants as cursor
 use Rattle.record_codecs.specs.declared.in_record.InRecord.{InRecord}
 use Rattle.record_codecs.specs.declared.in_record.InRecord.TheVariants as at
-use Rattle.record_codecs.specs.RecordCursor.{rows_in, rows_from, first_width_of, FollowsIn, Reads}
+use Rattle.record_codecs.specs.RecordCursor.{rows_in, rows_from, first_width_of, FollowsIn}
 use Rattle.record_codecs.specs.BodyCursor.{rows_at, records_left, Follows}
 use Rattle.record_codecs.proofs.Turns.{part_width}
 

@@ -1,5 +1,5 @@
 -- A record's cursor over bytes: each field on the way to the record's end or to a rule that fails.
-use Rattle.std.proofs.Common.{◌≡◌, ℕ, ◌+◌, ◌*◌, ◌<◌, ◌≤◌, List, [], ◌∷◌, ◌++◌, length, take, drop, Option, Some, None, Ok, Err, refl, sym, ap, subst, ◌∙◌, arith, length-take, length-drop}
+use Rattle.std.proofs.Common.{◌≡◌, ℕ, ◌+◌, ◌*◌, ◌<◌, ◌≤◌, List, [], ◌∷◌, length, take, drop, Option, Some, None, Ok, Err, refl, sym, ap, subst, ◌∙◌, arith, length-take, length-drop}
 use Rattle.std.proofs.Math.Seq.{take-length}
 use Rattle.std.proofs.lemmas.List.{append-nil}
 use Rattle.avl_values.specs.Width.{bytes_of}
@@ -11,7 +11,7 @@ use Rattle.layout.specs.Bytes.{AreBytes}
 use Rattle.layout.specs.Rows.{Rows, Verdict, judge, short, fault, whole, Fills}
 use Rattle.layout.proofs.RowLaws.{filled}
 use Rattle.layout.specs.Fields.{number}
-use Rattle.layout.specs.Next.{width_of, rule_of, rows_after}
+use Rattle.layout.specs.Next.{width_of}
 use Rattle.layout.proofs.Judging.{judge_done}
 use Rattle.layout.proofs.Stepping.{step_short, step_on, step_fault}
 use Rattle.record_layout.specs.declared.part.Part.{Part}
@@ -25,7 +25,7 @@ use Rattle.record_layout.specs.SomeRecord.{IsSomeRecord}
 use Rattle.record_layout.proofs.ReadLaws.{first_is}
 use Rattle.record_layout.proofs.RecordFills.{lone_take}
 use Rattle.record_codecs.proofs.Turns.{part_width}
-use Rattle.record_codecs.specs.RecordCursor.{rows_in, rows_from, nothing, FollowsIn, Reads, weight_in, weight_from}
+use Rattle.record_codecs.specs.RecordCursor.{rows_in, rows_from, nothing, FollowsIn, Reads, weight_in}
 
 -- what is left of the record is judged from here on
 abbrev pub JudgedIn : Codec → List ℕ → InRecord → ℕ → List ℕ → Type 0

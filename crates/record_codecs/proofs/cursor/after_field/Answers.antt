@@ -1,4 +1,4 @@
-use Rattle.std.proofs.Common.{◌≡◌, Some, None, Ok, Err, refl, subst}
+use Rattle.std.proofs.Common.{Some, None, Ok, refl, subst}
 use Rattle.record_codecs.specs.declared.cursor.Cursor.TheVariants as cursor
 use Rattle.record_codecs.specs.RecordCursor.{rows_in, FollowsIn}
 use Rattle.record_codecs.proofs.BodyTurns.{same_width, field_fails, field_follows, after_records}

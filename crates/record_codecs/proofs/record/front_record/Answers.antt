@@ -1,5 +1,5 @@
-use Rattle.std.proofs.Common.{◌≡◌, ◌+◌, ◌≤◌, length, take, Some, None, Ok, arith, ap, ◌∙◌, refl, sym, subst}
-use Rattle.record_codecs.specs.RecordCursor.{rows_in, rows_from, weight_in, weight_from, FollowsIn}
+use Rattle.std.proofs.Common.{◌+◌, ◌≤◌, length, take, Some, None, Ok, arith, ap, ◌∙◌, subst}
+use Rattle.record_codecs.specs.RecordCursor.{rows_in, weight_in, weight_from, FollowsIn}
 use Rattle.record_codecs.proofs.RecordSteps.{missing_in, failed_in, judged_from, ended_in, front_reads, front_width, falls_in, no_width}
 use Rattle.record_codecs.proofs.record.front_record.Goals as goal
 

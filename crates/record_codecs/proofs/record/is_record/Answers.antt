@@ -1,4 +1,4 @@
-use Rattle.std.proofs.Common.{◌≡◌, ◌<◌, length, Some, None, arith, ap, ◌∙◌, sym, eq-eqb, rules}
+use Rattle.std.proofs.Common.{◌≡◌, length, Some, arith, ap, ◌∙◌, sym, eq-eqb}
 use Rattle.std.proofs.lemmas.Bool.{eqb-true, false≢true}
 use Rattle.layout.proofs.Numbers.{are_bytes}
 use Rattle.record_codecs.proofs.RecordSteps.{some_from_front, front_from_some}

@@ -1,4 +1,4 @@
-use Rattle.std.proofs.Common.{◌≡◌, ◌+◌, ◌-◌, ◌≤◌, ◌<◌, length, take, Some, Ok, arith, ap, ◌∙◌, refl}
+use Rattle.std.proofs.Common.{◌-◌, ◌≤◌, length, take, Some, arith, ap, ◌∙◌}
 use Rattle.record_codecs.specs.BodyCursor.{rows_at}
 use Rattle.record_codecs.proofs.RecordSteps.{front_reads}
 use Rattle.record_codecs.proofs.BodySteps.{judged_first, ended_whole, ended_excess, overrun_at, missing_at, failed_at, judged_next, body_width_is, no_field, falls_at}

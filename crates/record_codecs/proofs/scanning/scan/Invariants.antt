@@ -1,4 +1,4 @@
-use Rattle.std.proofs.Common.{◌≡◌, ◌+◌, ◌-◌, ◌*◌, length}
+use Rattle.std.proofs.Common.{◌≡◌, ◌+◌, ◌*◌, length}
 use Rattle.record_codecs.specs.BodyCursor.{weight}
 use Rattle.record_codecs.proofs.BodySteps.{JudgedAt}
 use Rattle.record_codecs.proofs.scanning.scan.Given as goal

@@ -1,4 +1,4 @@
-use Rattle.std.proofs.Common.{ap, ◌∙◌, sym, inl, inr}
+use Rattle.std.proofs.Common.{ap, ◌∙◌, inl, inr}
 use Rattle.layout.specs.Next.{width_of}
 use Rattle.layout.proofs.Following.{follow_width}
 use Rattle.record_codecs.specs.RecordCursor.{rows_in}

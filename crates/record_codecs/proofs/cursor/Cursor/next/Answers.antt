@@ -1,6 +1,5 @@
-use Rattle.std.proofs.Common.{◌≡◌, ◌+◌, length, Some, ap, ◌∙◌, sym, subst, arith}
+use Rattle.std.proofs.Common.{◌≡◌, length, Some, ap, ◌∙◌, sym, subst, arith}
 use Rattle.layout.specs.Next.{width_of}
-use Rattle.layout.specs.Fields.{number}
 use Rattle.record_codecs.specs.BodyCursor.{rows_at, Follows}
 use Rattle.record_codecs.proofs.BodyTurns.{packet_width}
 use Rattle.record_codecs.proofs.cursor.Cursor.next.Goals as goal
