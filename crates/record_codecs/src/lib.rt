@@ -5,11 +5,13 @@
 
 mod cursor;
 mod in_record;
+mod machine;
 mod number;
 mod record;
 mod scanning;
 mod verdict;
 
+pub use machine::RecordMachine;
 pub use record::is_record;
 pub use record_layout::PacketHead;
 pub use scanning::{read_packet, scan};
