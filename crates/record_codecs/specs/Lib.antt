@@ -3,3 +3,4 @@ pub mod Machines
 pub mod RecordCursor
 pub mod SomeRecord
 pub mod Verdicts
+pub mod Views

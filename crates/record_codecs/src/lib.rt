@@ -7,12 +7,16 @@ mod cursor;
 mod in_record;
 mod machine;
 mod number;
+mod reading;
 mod record;
+mod record_iter;
 mod scanning;
 mod verdict;
 
 pub use machine::RecordMachine;
+pub use reading::records;
 pub use record::is_record;
+pub use record_iter::Records;
 pub use record_layout::PacketHead;
 pub use scanning::{read_packet, scan};
 pub use verdict::Scan;

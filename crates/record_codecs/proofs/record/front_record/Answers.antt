@@ -3,20 +3,20 @@ use Rattle.record_codecs.specs.RecordCursor.{rows_in, weight_in, weight_from, Fo
 use Rattle.record_codecs.proofs.RecordSteps.{missing_in, failed_in, judged_from, ended_in, front_reads, front_width, falls_in, no_width}
 use Rattle.record_codecs.proofs.record.front_record.Goals as goal
 
-pub returns-then-width-rest : goal.returns-then-width-rest
-returns-then-width-rest c =
+pub returns-then-width-rest-clause-end : goal.returns-then-width-rest-clause-end
+returns-then-width-rest-clause-end c =
     missing_in c.args.codec c.args.bytes.now c.fields.at c.fields.place c.width-width.result c.fields.rest.now c.fields.invariant.0 c.width-width.ensures (omega (arith, c.if-width-rest.true))
 
-pub returns-in-Err : goal.returns-in-Err
-returns-in-Err c =
+pub returns-in-Err-clause-end : goal.returns-in-Err-clause-end
+returns-in-Err-clause-end c =
     let w = c.width-width.result in
     let rest = c.fields.rest.now in
     let fits : w ≤ length rest = omega (arith, c.if-width-rest.false) in
     failed_in c.args.codec c.args.bytes.now c.fields.at c.fields.place w rest c.in-Err.field-0 c.fields.invariant.0 c.width-width.ensures fits
     (c.in-Err.ensures.follows (take w rest) (front_width (rows_in c.fields.at) w rest c.width-width.ensures fits) (front_reads w c.number.result rest c.split_at.result.0.now c.split_at.ensures.front c.number.ensures.value))
 
-pub returns-in-Ok-None : goal.returns-in-Ok-None
-returns-in-Ok-None c =
+pub returns-in-Ok-None-clause-end : goal.returns-in-Ok-None-clause-end
+returns-in-Ok-None-clause-end c =
     let w = c.width-width.result in
     let rest = c.fields.rest.now in
     let fits : w ≤ length rest = omega (arith, c.if-width-rest.false) in
