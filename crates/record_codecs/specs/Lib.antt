@@ -1,4 +1,5 @@
 pub mod BodyCursor
+pub mod Elements
 pub mod Machines
 pub mod RecordCursor
 pub mod SomeRecord

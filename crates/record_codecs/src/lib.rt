@@ -4,6 +4,7 @@
 #![tactic(auto)]
 
 mod cursor;
+mod elements;
 mod in_record;
 mod machine;
 mod number;
@@ -13,6 +14,7 @@ mod record_iter;
 mod scanning;
 mod verdict;
 
+pub use elements::{Ios, Nxs};
 pub use machine::RecordMachine;
 pub use reading::records;
 pub use record::is_record;
