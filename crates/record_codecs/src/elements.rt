@@ -11,7 +11,7 @@ use crate::number::number;
 use avl_values::{Codec, Io, Width};
 
 /// The width of an I/O element's id, and of an event's.
-fn id_width(codec: Codec) -> Width
+pub fn id_width(codec: Codec) -> Width
     ensures { result ≡ id_width_of codec }
 {
     match codec {

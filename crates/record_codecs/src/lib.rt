@@ -11,15 +11,17 @@ mod number;
 mod reading;
 mod record;
 mod record_iter;
+mod record_view;
 mod scanning;
 mod verdict;
 
 pub use elements::{Ios, Nxs};
 pub use machine::RecordMachine;
-pub use reading::records;
+pub use reading::{records, view};
 pub use record::is_record;
 pub use record_iter::Records;
 pub use record_layout::PacketHead;
+pub use record_view::RecordView;
 pub use scanning::{read_packet, scan};
 pub use verdict::Scan;
 

@@ -3,9 +3,13 @@ ghost use Rattle.std.specs.Prelude.{◌≡◌, List, ℕ, map};
 ghost use Rattle.avl_values.specs.declared.codec.Codec.{Codec as CodecOf};
 ghost use Rattle.record_layout.specs.Packet.{IsPacket};
 ghost use Rattle.record_layout.specs.RecordsOf.{records_of};
+ghost use Rattle.avl_values.specs.RecordValue.{RecordValue};
+ghost use Rattle.record_layout.specs.Spelling.{IsRecord};
+ghost use Rattle.record_codecs.specs.Shown.{Shows};
 ghost use Rattle.record_codecs.specs.Views.{records_left};
 
 use crate::record_iter::Records;
+use crate::record_view::RecordView;
 use avl_values::Codec;
 
 /// The records of a body that `read_packet` accepts, in its order. Of other bytes the slices are of no use.
@@ -20,4 +24,11 @@ pub fn records(body: &[u8]) -> Records<'_>
         },
         _ => Records::new(Codec::C8, 0, body),
     }
+}
+
+/// One record, read in place. What the view answers is the record's value where `is_record` holds of the bytes.
+pub fn view(codec: Codec, bytes: &[u8]) -> RecordView<'_>
+    ensures { (v : RecordValue) → IsRecord codec v bytes.now → Shows result v }
+{
+    RecordView::new(codec, bytes)
 }
