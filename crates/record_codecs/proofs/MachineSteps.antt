@@ -218,3 +218,13 @@ past total place at next more width follows =
 pub enters_past : (total place : ℕ) (at next : Cursor) (result : Result RecordMachine Scan) → width_of (rows_at at) ≡ Some 0 → Follows (rows_at at) [] (Ok next) → Enters total place next result → Enters total place at result
 enters_past total place at next (Ok m) width follows enters = (enters.0, λ more. past total place at next more width follows ∙ enters.1 more)
 enters_past total place at next (Err scan) width follows enters = (enters.0, λ more. past total place at next more width follows ∙ enters.1 more)
+
+-- What a machine has taken is short, and fewer bytes than the body's length.
+
+pub taken_short : (m : RecordMachine) (total : ℕ) (bytes : List ℕ) → HasTaken m total bytes → packet_verdict total bytes ≡ short
+taken_short m total bytes h =
+    ap (λ t. packet_verdict t bytes) (sym h.of_total) ∙ ap (packet_verdict m.total) h.is ∙ h.judged h.part
+    ∙ body_missing (rows_at m.cursor) (length h.part + m.missing) (m.total - m.start) m.start h.part h.width (omega (arith, h.room)) (omega (arith, h.lacks))
+
+pub taken_below : (m : RecordMachine) (total : ℕ) (bytes : List ℕ) → HasTaken m total bytes → length bytes < total
+taken_below m total bytes h = omega (arith, ap length h.is, length-append h.fields h.part, h.start, h.lacks, h.room, h.of_total)
