@@ -4,4 +4,5 @@ pub mod Judging
 pub mod NestedLaws
 pub mod Numbers
 pub mod RowLaws
+pub mod Stepping
 pub mod WithinLaws
