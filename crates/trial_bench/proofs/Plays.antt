@@ -1,5 +1,5 @@
 -- What a script that is built decides for its device, and that its outcome keeps what every trial keeps.
-use Rattle.std.proofs.Common.{◌≡◌, ◌==◌, ◌+◌, ◌<◌, ◌≤◌, ℕ, Bool, true, false, List, [], ◌∷◌, ◌++◌, map, length, fold, Option, Some, None, Result, Ok, option_map, if◌then◌else◌, refl, sym, ap, ◌∙◌, subst, inl, inr, append_assoc, arith}
+use Rattle.std.proofs.Common.{◌≡◌, ◌==◌, ◌+◌, ℕ, Bool, true, false, List, [], ◌∷◌, ◌++◌, map, fold, Option, Some, None, Result, Ok, option_map, if◌then◌else◌, refl, sym, ap, ◌∙◌, subst, inl, inr, append_assoc}
 use Rattle.std.specs.List.{AllZip, filter_map}
 use Rattle.std.proofs.lemmas.Bool.{eq-eqb, false≢true}
 use Rattle.std.proofs.lemmas.List.{append-nil, map_push}
@@ -9,7 +9,7 @@ use Rattle.avl_values.specs.declared.codec.Codec.TheVariants.{C8}
 use Rattle.plain_records.specs.PlainBody.{plain_record}
 use Rattle.trial_model.specs.Acquired.{IsAcquired}
 use Rattle.trial_model.specs.Acquisition.{Decided, Watching, bytes_of, decided, is_due, powered_up}
-use Rattle.trial_model.specs.Decisions.{Decision, DeviceHistory, Step, after_connection, after_fix, after_step, before_all, history_of, progress_of, records_decided, steps_of, store_cost}
+use Rattle.trial_model.specs.Decisions.{Decision, DeviceHistory, after_connection, after_fix, after_step, before_all, history_of, progress_of, records_decided, steps_of, store_cost}
 use Rattle.trial_model.specs.Load.{one_more}
 use Rattle.trial_model.specs.Kept.{KeptRecords, ends_of}
 use Rattle.trial_model.specs.NothingLost.{HasLostNothing}
@@ -23,7 +23,7 @@ use Rattle.trial_model.specs.declared.outcome.DeviceEnd.{DeviceEnd}
 use Rattle.trial_model.specs.declared.outcome.DeviceOutcome.{DeviceOutcome}
 use Rattle.trial_model.specs.declared.script.ScriptLine.{ScriptLine}
 use Rattle.trial_model.specs.declared.script.ScriptLine.TheVariants as Line
-use Rattle.trial_bench.specs.PlainOutcome.{made_by, made_from, outcome_by, outcome_of, with_connection, without_connection}
+use Rattle.trial_bench.specs.PlainOutcome.{made_by, made_from, outcome_by, outcome_of}
 use Rattle.trial_bench.specs.PlainScript.{Refusal}
 use Rattle.trial_bench.specs.ReadScript.{fix_part, plain_script_of, round_part}
 use Rattle.trial_bench.specs.Tracker.{due_by}
@@ -59,7 +59,16 @@ lines_are s = ap (λ ls. device_line s ∷ ls) (fix_lines_are s.imei s.fixes.ite
 -- its one device
 abbrev pub plain_device : PlainScript → Device
 plain_device s = record {
-  imei = s.imei; codec = C8; slots = s.slots; order = Oldest; period = s.period; distance = 0; angle = 0; speed = 0; known = true; settings = [];
+  imei = s.imei;
+  codec = C8;
+  slots = s.slots;
+  order = Oldest;
+  period = s.period;
+  distance = 0;
+  angle = 0;
+  speed = 0;
+  known = true;
+  settings = [];
 }
 
 no_settings : (who imei : ℕ) (fs : List NumberedFix) (round : Option NumberedRound) → filter_map (setting_on who) (fix_lines imei fs round) ≡ []
@@ -103,7 +112,7 @@ fixes_history device h imei (f ∷ fs) round ends is =
     let step = step_plain (Line.Fix imei f.fix) (fix_lines imei fs round) ends refl in
     ap (fold (after_step device) h) step
     ∙ (ap (λ (x : DeviceHistory). fold (after_step device) x (steps_of (fix_lines imei fs round) ends)) (own_fix device h imei f.fix is)
-      ∙ fixes_history device (after_fix device h f.fix) imei fs round ends is)
+    ∙ fixes_history device (after_fix device h f.fix) imei fs round ends is)
 
 -- a connection decides nothing
 own_round : (h : DeviceHistory) (own : Bool) (end : Option DeviceEnd) → (if own then after_connection false end h else h).decisions ≡ h.decisions
@@ -120,7 +129,7 @@ pub history_is : (s : PlainScript) (ends : List DeviceEnd) → (history_of (plai
 history_is s ends =
     let step = step_plain (device_line s) (fix_lines s.imei s.fixes.items s.round) ends refl in
     rw step (ap (λ h. h.decisions) (fixes_history (plain_device s) before_all s.imei s.fixes.items s.round ends refl)
-      ∙ round_decides (plain_device s) (after_fixes (plain_device s) before_all s.fixes.items) s.imei s.round ends)
+    ∙ round_decides (plain_device s) (after_fixes (plain_device s) before_all s.fixes.items) s.imei s.round ends)
 
 -- what the fixes decide is what they make
 abbrev pub time_of : Option Fix → Option ℕ
@@ -136,7 +145,9 @@ history_with ds w load = record { decisions = ds; watching = w; fuse = None; loa
 -- the history by what a fix decides
 history_by_decided : Device → List Decision → ℕ → Decided → DeviceHistory
 history_by_decided device ds load x = record {
-  decisions = (progress_of device.slots None ds load x.records).decisions; watching = x.watching; fuse = None;
+  decisions = (progress_of device.slots None ds load x.records).decisions;
+  watching = x.watching;
+  fuse = None;
   load = (progress_of device.slots None ds load x.records).load;
 }
 
@@ -157,7 +168,7 @@ decides_one device ds w load f fs true e c more =
     let made = chosen (due_by device.period (time_of w.last) f.fix.time) (plain_record (bytes_of f.fix) ∷ rest) (made_from device.period (time_of w.last) fs) due in
     ap (λ (x : Decided). records_decided (after_fixes device (history_by_decided device ds load x) fs).decisions) is
     ∙ (later ∙ (ap (λ (xs : List Record). xs ++ rest) push ∙ (append_assoc (records_decided ds) (new.rec ∷ []) rest
-      ∙ (ap (λ (r : Record). records_decided ds ++ r ∷ rest) same ∙ ap (λ (xs : List Record). records_decided ds ++ xs) (sym made)))))
+    ∙ (ap (λ (r : Record). records_decided ds ++ r ∷ rest) same ∙ ap (λ (xs : List Record). records_decided ds ++ xs) (sym made)))))
 decides_one device ds w load f fs false e c more =
     let due = due_is device.period w.last f.fix ∙ e in
     let yes : Decided = record { records = record { codec = device.codec; bytes = bytes_of f.fix } ∷ []; watching = record { last = Some f.fix; watched = f.fix.values.items } } in
@@ -201,16 +212,28 @@ kept_round s None =
     let all = first_places (made_by s) in
     kept_by s (outcome_by s.imei (made_by s) None) (record { imei = s.imei; acquired = all; cut = []; overwritten = []; flash = all; archived = [] }) refl refl refl
     (record {
-      flash = in_itself all; archived = none_in all; cut = none_in all; overwritten = none_in all;
-      flash_once = once (made_by s); archived_once = refl; cut_once = refl; overwritten_once = refl;
+      flash = in_itself all;
+      archived = none_in all;
+      cut = none_in all;
+      overwritten = none_in all;
+      flash_once = once (made_by s);
+      archived_once = refl;
+      cut_once = refl;
+      overwritten_once = refl;
     })
     (λ k d below. inl (in_itself all k d below))
 kept_round s (Some r) =
     let all = first_places (made_by s) in
     kept_by s (outcome_by s.imei (made_by s) (Some r)) (record { imei = s.imei; acquired = all; cut = []; overwritten = []; flash = []; archived = all }) refl refl refl
     (record {
-      flash = none_in all; archived = in_itself all; cut = none_in all; overwritten = none_in all;
-      flash_once = refl; archived_once = once (made_by s); cut_once = refl; overwritten_once = refl;
+      flash = none_in all;
+      archived = in_itself all;
+      cut = none_in all;
+      overwritten = none_in all;
+      flash_once = refl;
+      archived_once = once (made_by s);
+      cut_once = refl;
+      overwritten_once = refl;
     })
     (λ k d below. inr (inl (in_itself all k d below)))
 

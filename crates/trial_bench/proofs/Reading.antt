@@ -2,7 +2,7 @@
 use Rattle.std.proofs.Common.{◌≡◌, ◌==◌, ℕ, ◌+◌, ◌^◌, ◌<◌, ◌≤◌, ◌&&◌, nat_lt, Bool, true, false, List, [], ◌∷◌, ◌++◌, map, length, Option, Some, None, Result, Ok, Err, refl, sym, ap, ◌∙◌, subst, arith}
 use Rattle.std.specs.Prelude.{is_none, is_some}
 use Rattle.std.specs.List.{list_all}
-use Rattle.std.proofs.lemmas.List.{append-nil, length-append, length-map, map_push}
+use Rattle.std.proofs.lemmas.List.{append-nil, length-map, map_push}
 use Rattle.std.proofs.lemmas.Bool.{eqb-true, false≢true}
 use Rattle.trial_model.specs.declared.fix.Fix.{Fix}
 use Rattle.avl_values.specs.declared.codec.Codec.TheVariants.{C8}
@@ -18,7 +18,7 @@ use Rattle.trial_bench.specs.PlainLines.{plain_line}
 use Rattle.std.specs.Str.Lines.{lines}
 use Rattle.std.proofs.lemmas.Bool.Decides.{nat_tests}
 use Rattle.trial_bench.specs.PlainScript.{Refusal, Refuses, after_text_line, is_fix, may_stand, script_from, script_of, with_line}
-use Rattle.trial_bench.specs.ReadScript.{device_part, fix_part, plain_script_of, round_part, script_in}
+use Rattle.trial_bench.specs.ReadScript.{fix_part, plain_script_of, round_part, script_in}
 use Rattle.trial_bench.specs.declared.plain_script.NumberedFix.{NumberedFix}
 use Rattle.trial_bench.specs.declared.plain_script.NumberedRound.{NumberedRound}
 use Rattle.trial_bench.specs.declared.plain_script.PlainScript.{PlainScript}

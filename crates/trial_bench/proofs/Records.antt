@@ -1,8 +1,7 @@
 -- The bytes of a record, and lists of records.
-use Rattle.std.proofs.Common.{◌≡◌, ℕ, ◌+◌, ◌<◌, ◌||◌, Bool, true, false, List, [], ◌∷◌, ◌++◌, map, length, get_or, take, append_assoc, refl, sym, ap, ◌∙◌, arith}
+use Rattle.std.proofs.Common.{◌≡◌, ℕ, ◌+◌, ◌<◌, ◌||◌, Bool, true, false, List, [], ◌∷◌, ◌++◌, length, get_or, take, append_assoc, refl, sym, ap, ◌∙◌}
 use Rattle.std.specs.List.{list_any}
 use Rattle.std.specs.Int.{cast_unsigned, to_be_bytes, w16, w32, w64}
-use Rattle.std.proofs.lemmas.List.{append-nil, take_all}
 use Rattle.std.proofs.lemmas.List.Folds.{list_any_at, list_any_more}
 use Rattle.avl_values.specs.Record.{Record}
 use Rattle.avl_values.specs.Viewed.{record_of, records_of}
@@ -14,7 +13,7 @@ use Rattle.trial_model.specs.declared.fix.Fix.{Fix}
 
 pub gps_joined : (start : List ℕ) (g : Gps)
     → start ++ to_be_bytes w32 (cast_unsigned w32 g.longitude) ++ to_be_bytes w32 (cast_unsigned w32 g.latitude) ++ to_be_bytes w16 (cast_unsigned w16 g.altitude)
-      ++ to_be_bytes w16 g.angle ++ g.satellites ∷ [] ++ to_be_bytes w16 g.speed ≡ start ++ gps_bytes g
+    ++ to_be_bytes w16 g.angle ++ g.satellites ∷ [] ++ to_be_bytes w16 g.speed ≡ start ++ gps_bytes g
 unfolding gps_bytes
 gps_joined start g = simp append_assoc
 

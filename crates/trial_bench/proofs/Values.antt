@@ -1,5 +1,5 @@
 -- Numbers by their digits.
-use Rattle.std.proofs.Common.{◌≡◌, ℕ, zero, suc, ◌+◌, ◌-◌, ◌*◌, ◌/◌, ◌%◌, ◌^◌, ◌<◌, ◌≤◌, List, [], ◌∷◌, ◌++◌, take, length, get_or, fold, refl, sym, ap, ◌∙◌, pow-suc, arith}
+use Rattle.std.proofs.Common.{◌≡◌, ℕ, zero, suc, ◌+◌, ◌*◌, ◌/◌, ◌%◌, ◌^◌, ◌<◌, ◌≤◌, List, [], ◌∷◌, ◌++◌, take, length, get_or, fold, refl, sym, ap, ◌∙◌, pow-suc, arith}
 use Rattle.avl_values.specs.Imei.{decimal_places, imei_text}
 use Rattle.trial_bench.specs.Numbers.{value_of, with_digit}
 

@@ -26,7 +26,16 @@ pub record TenTexts : Type 0 where
 
 abbrev pub ten_of : List (List ℕ) → Option TenTexts
 ten_of (a ∷ b ∷ c ∷ d ∷ e ∷ f ∷ g ∷ h ∷ i ∷ j ∷ []) = Some (record {
-  word = a; imei = b; third = c; fourth = d; fifth = e; sixth = f; seventh = g; eighth = h; ninth = i; tenth = j;
+  word = a;
+  imei = b;
+  third = c;
+  fourth = d;
+  fifth = e;
+  sixth = f;
+  seventh = g;
+  eighth = h;
+  ninth = i;
+  tenth = j;
 })
 ten_of fields = None
 

@@ -21,6 +21,11 @@ down_of records = 1 ∷ to_be_bytes w32 (length records)
 unfoldable pub connection_of : ℕ → List Record → ConnectionOutcome
 connection_of imei [] = record { imei = imei; up = []; up_given = 0; down = []; down_given = 0; device = Device.Empty; server = Server.Ended }
 connection_of imei (r ∷ rs) = record {
-  imei = imei; up = up_of imei (r ∷ rs); up_given = length (up_of imei (r ∷ rs)); down = down_of (r ∷ rs); down_given = 5;
-  device = Device.Done (length (r ∷ rs)); server = Server.Ended;
+  imei = imei;
+  up = up_of imei (r ∷ rs);
+  up_given = length (up_of imei (r ∷ rs));
+  down = down_of (r ∷ rs);
+  down_given = 5;
+  device = Device.Done (length (r ∷ rs));
+  server = Server.Ended;
 }

@@ -19,7 +19,7 @@ found >>= next = option_and_then next found
 -- the words of a `device` line that may not differ yet: codec, order, distance, angle, speed and flag
 abbrev pub is_plain_device : TenTexts → Bool
 is_plain_device t = bytes_eq t.third (codes "8") && (bytes_eq t.fifth (codes "oldest") && (bytes_eq t.seventh (codes "0")
-  && (bytes_eq t.eighth (codes "0") && (bytes_eq t.ninth (codes "0") && bytes_eq t.tenth (codes "known")))))
+    && (bytes_eq t.eighth (codes "0") && (bytes_eq t.ninth (codes "0") && bytes_eq t.tenth (codes "known")))))
 
 unfoldable pub device_line : TenTexts → Option ScriptLine
 device_line t = if is_plain_device t then (do

@@ -1,5 +1,5 @@
 -- The script that was read, as its list of lines.
-use Rattle.std.specs.Prelude.{ℕ, List, [], ◌∷◌, ◌++◌, map, true, Option, Some, None}
+use Rattle.std.specs.Prelude.{ℕ, [], ◌∷◌, ◌++◌, map, true, Option, Some, None}
 use Rattle.avl_values.specs.declared.codec.Codec.TheVariants.{C8}
 use Rattle.trial_model.specs.Script.{Script}
 use Rattle.trial_model.specs.declared.order.Order.TheVariants.{Oldest}

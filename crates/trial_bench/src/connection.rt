@@ -15,7 +15,12 @@ use std::alloc::Global;
 use trial_model::{ConnectionOutcome, DeviceEnd, Got, ServerEnd};
 
 /// One connection of a known device, with one packet of all its records. What was counted is released.
-pub fn connect(alloc: Global, imei: Imei, tracker: &mut PlainTracker, archive: &mut WideList) -> Result<ConnectionOutcome, NoMemory>
+pub fn connect(
+    alloc: Global,
+    imei: Imei,
+    tracker: &mut PlainTracker,
+    archive: &mut WideList,
+) -> Result<ConnectionOutcome, NoMemory>
     requires plain { ArePlain tracker.old.flash }
     requires few { length tracker.old.flash ≤ 255 }
     ensures outcome { IfOk result (λ c. c ≡ connection_of imei tracker.old.flash) }
@@ -24,12 +29,23 @@ pub fn connect(alloc: Global, imei: Imei, tracker: &mut PlainTracker, archive: &
     ensures acquired { OnOk result (tracker.new.acquired ≡ tracker.old.acquired) }
 {
     if tracker.flash.is_empty() {
-        return Ok(ended(imei, ByteList::new(alloc), ByteList::new(alloc), DeviceEnd::Empty, ServerEnd::Ended));
+        return Ok(ended(
+            imei,
+            ByteList::new(alloc),
+            ByteList::new(alloc),
+            DeviceEnd::Empty,
+            ServerEnd::Ended,
+        ));
     }
     talk(alloc, imei, tracker, archive)
 }
 
-fn talk(alloc: Global, imei: Imei, tracker: &mut PlainTracker, archive: &mut WideList) -> Result<ConnectionOutcome, NoMemory>
+fn talk(
+    alloc: Global,
+    imei: Imei,
+    tracker: &mut PlainTracker,
+    archive: &mut WideList,
+) -> Result<ConnectionOutcome, NoMemory>
     requires some { 0 < length tracker.old.flash }
     requires plain { ArePlain tracker.old.flash }
     requires few { length tracker.old.flash ≤ 255 }
@@ -41,7 +57,13 @@ fn talk(alloc: Global, imei: Imei, tracker: &mut PlainTracker, archive: &mut Wid
     let (login, answer) = log_in(alloc, imei)?;
     if answer != ACCEPTED {
         let down = ByteList::new(alloc);
-        return Ok(ended(imei, ByteList::from_vec(login), down, DeviceEnd::Refused, ServerEnd::Unknown { imei }));
+        return Ok(ended(
+            imei,
+            ByteList::from_vec(login),
+            down,
+            DeviceEnd::Refused,
+            ServerEnd::Unknown { imei },
+        ));
     }
     let (frame, counted) = report(alloc, tracker.flash.as_slice(), archive)?;
     let up = joined(login, &frame)?;
@@ -51,7 +73,13 @@ fn talk(alloc: Global, imei: Imei, tracker: &mut PlainTracker, archive: &mut Wid
             let device = hear_count(alloc, tracker, count);
             Ok(ended(imei, up, down, device, ServerEnd::Ended))
         }
-        None => Ok(ended(imei, up, ByteList::new(alloc), DeviceEnd::Broken, ServerEnd::Ended)),
+        None => Ok(ended(
+            imei,
+            up,
+            ByteList::new(alloc),
+            DeviceEnd::Broken,
+            ServerEnd::Ended,
+        )),
     }
 }
 
@@ -65,7 +93,11 @@ fn log_in(alloc: Global, imei: Imei) -> Result<(Vec<u8>, u8), NoMemory>
 }
 
 // The device sends its records in one frame, and the server archives and counts them.
-fn report(alloc: Global, recs: &[Rec], archive: &mut WideList) -> Result<(Vec<u8>, Option<u8>), NoMemory>
+fn report(
+    alloc: Global,
+    recs: &[Rec],
+    archive: &mut WideList,
+) -> Result<(Vec<u8>, Option<u8>), NoMemory>
     requires some { 0 < length (records_of recs.now) }
     requires plain { ArePlain (records_of recs.now) }
     requires few { length (records_of recs.now) ≤ 255 }
@@ -113,7 +145,13 @@ fn hear_count(alloc: Global, tracker: &mut PlainTracker, count: u8) -> DeviceEnd
 }
 
 // Everything that was sent was delivered.
-fn ended(imei: Imei, up: ByteList, down: ByteList, device: DeviceEnd, server: ServerEnd) -> ConnectionOutcome
+fn ended(
+    imei: Imei,
+    up: ByteList,
+    down: ByteList,
+    device: DeviceEnd,
+    server: ServerEnd,
+) -> ConnectionOutcome
     ensures { result ≡ record { imei = imei; up = up; up_given = length up; down = down; down_given = length down; device = device; server = server } }
 {
     let up_given = up.len() as u64;

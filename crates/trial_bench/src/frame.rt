@@ -65,5 +65,9 @@ pub fn body_in(frame: &[u8]) -> &[u8]
     }
     let size = u32::from_be_bytes([frame[4], frame[5], frame[6], frame[7]]) as usize;
     let rest = &frame[8..];
-    if rest.len() < size { rest } else { &rest[..size] }
+    if rest.len() < size {
+        rest
+    } else {
+        &rest[..size]
+    }
 }

@@ -11,10 +11,10 @@ mod plain_line;
 mod plain_script;
 mod reader;
 mod record;
-mod tracker;
-mod trial;
 mod server;
 mod text;
+mod tracker;
+mod trial;
 
 pub use fault::{PlainFault, PlainKind};
 pub use trial::plain_trial;

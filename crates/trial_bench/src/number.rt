@@ -40,7 +40,9 @@ fn value(digits: &[u8]) -> Option<u64>
 {
     let mut n: u64 = 0;
     for digit in digits {
-        n = n.checked_mul(10)?.checked_add(u64::from(digit.saturating_sub(b'0')))?;
+        n = n
+            .checked_mul(10)?
+            .checked_add(u64::from(digit.saturating_sub(b'0')))?;
     }
     Some(n)
 }

@@ -122,5 +122,7 @@ fn round_line(fields: &FiveFields<'_>) -> Option<PlainLine>
 fn is_whole_round(fields: &FiveFields<'_>) -> bool
     ensures { result ≡ is_whole_round (five_texts fields.now) }
 {
-    fields.word == b"round".as_slice() && fields.fourth == b"-".as_slice() && fields.fifth == b"-".as_slice()
+    fields.word == b"round".as_slice()
+        && fields.fourth == b"-".as_slice()
+        && fields.fifth == b"-".as_slice()
 }

@@ -49,7 +49,12 @@ pub fn read_script(alloc: Global, text: &[u8]) -> Result<Option<PlainScript>, Pl
 }
 
 // The script after one line more.
-fn after_line(alloc: Global, number: u32, line: &[u8], script: Option<PlainScript>) -> Result<Option<PlainScript>, PlainFault>
+fn after_line(
+    alloc: Global,
+    number: u32,
+    line: &[u8],
+    script: Option<PlainScript>,
+) -> Result<Option<PlainScript>, PlainFault>
     ensures script { IfOk result (λ s. after_text_line number line.now (script_in script) ≡ Ok (script_in s)) }
     ensures refused { IfErr result (Refuses (after_text_line number line.now (script_in script))) }
 {
@@ -80,12 +85,21 @@ fn not_built(number: u32) -> PlainFault
     }
 }
 
-fn with_line(alloc: Global, number: u32, line: PlainLine, script: Option<PlainScript>) -> Result<Option<PlainScript>, PlainFault>
+fn with_line(
+    alloc: Global,
+    number: u32,
+    line: PlainLine,
+    script: Option<PlainScript>,
+) -> Result<Option<PlainScript>, PlainFault>
     ensures script { IfOk result (λ s. with_line number (script_in script) (Some (says line)) ≡ Ok (script_in s)) }
     ensures refused { IfErr result (Refuses (with_line number (script_in script) (Some (says line)))) }
 {
     match line {
-        PlainLine::Device { imei, slots, period } => with_device(alloc, number, imei, slots, period, script),
+        PlainLine::Device {
+            imei,
+            slots,
+            period,
+        } => with_device(alloc, number, imei, slots, period, script),
         PlainLine::Fix { imei, fix } => match script {
             Some(script) => with_fix(script, number, imei, fix),
             None => Err(not_built(number)),
@@ -98,7 +112,14 @@ fn with_line(alloc: Global, number: u32, line: PlainLine, script: Option<PlainSc
 }
 
 // A `device` line comes first.
-fn with_device(alloc: Global, number: u32, imei: Imei, slots: u16, period: u64, script: Option<PlainScript>) -> Result<Option<PlainScript>, PlainFault>
+fn with_device(
+    alloc: Global,
+    number: u32,
+    imei: Imei,
+    slots: u16,
+    period: u64,
+    script: Option<PlainScript>,
+) -> Result<Option<PlainScript>, PlainFault>
     ensures script { IfOk result (λ s. with_line number (script_in script) (Some (Entry.Device imei C8 slots Oldest period 0 0 0 true)) ≡ Ok (script_in s)) }
     ensures refused { IfErr result (Refuses (with_line number (script_in script) (Some (Entry.Device imei C8 slots Oldest period 0 0 0 true)))) }
 {
@@ -115,7 +136,12 @@ fn with_device(alloc: Global, number: u32, imei: Imei, slots: u16, period: u64, 
     }))
 }
 
-fn with_fix(mut script: PlainScript, number: u32, imei: Imei, fix: Fix) -> Result<Option<PlainScript>, PlainFault>
+fn with_fix(
+    mut script: PlainScript,
+    number: u32,
+    imei: Imei,
+    fix: Fix,
+) -> Result<Option<PlainScript>, PlainFault>
     ensures script { IfOk result (λ s. with_line number (plain_script_of script) (Some (Entry.Fix imei fix)) ≡ Ok (script_in s)) }
     ensures refused { IfErr result (Refuses (with_line number (plain_script_of script) (Some (Entry.Fix imei fix)))) }
 {
@@ -133,10 +159,18 @@ fn takes_fix(script: &PlainScript, imei: Imei) -> bool
     ensures room { IsTrue result → vec_len script.now.fixes < 42 }
 {
     let fixes = script.fixes.len();
-    script.round.is_none() && fixes < MOST_FIXES && script.imei == imei && fixes < script.slots as usize
+    script.round.is_none()
+        && fixes < MOST_FIXES
+        && script.imei == imei
+        && fixes < script.slots as usize
 }
 
-fn with_round(mut script: PlainScript, number: u32, imei: Imei, piece: u32) -> Result<Option<PlainScript>, PlainFault>
+fn with_round(
+    mut script: PlainScript,
+    number: u32,
+    imei: Imei,
+    piece: u32,
+) -> Result<Option<PlainScript>, PlainFault>
     ensures script { IfOk result (λ s. with_line number (plain_script_of script) (Some (Entry.Round imei piece None None)) ≡ Ok (script_in s)) }
     ensures refused { IfErr result (Refuses (with_line number (plain_script_of script) (Some (Entry.Round imei piece None None)))) }
 {

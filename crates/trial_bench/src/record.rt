@@ -59,7 +59,12 @@ fn is_listed(recs: &[Rec], rec: &Rec) -> bool
     ensures { result ≡ is_listed (records_of recs.now) (record_of rec.now) }
 {
     for other in recs {
-        if is_same(other.codec, other.bytes.as_slice(), rec.codec, rec.bytes.as_slice()) {
+        if is_same(
+            other.codec,
+            other.bytes.as_slice(),
+            rec.codec,
+            rec.bytes.as_slice(),
+        ) {
             return true;
         }
     }
@@ -67,7 +72,12 @@ fn is_listed(recs: &[Rec], rec: &Rec) -> bool
 }
 
 /// Puts the record of these bytes last, unless the list has it. NoMemory changes nothing.
-pub fn add_wide_once(alloc: Global, list: &mut WideList, codec: Codec, bytes: &[u8]) -> Result<(), NoMemory>
+pub fn add_wide_once(
+    alloc: Global,
+    list: &mut WideList,
+    codec: Codec,
+    bytes: &[u8],
+) -> Result<(), NoMemory>
     ensures { OnOk result (list.new ≡ add_once list.old (record { codec = codec; bytes = bytes.now })) }
 {
     if is_wide_listed(list.as_slice(), codec, bytes) {

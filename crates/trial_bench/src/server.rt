@@ -31,7 +31,11 @@ pub fn answer_login(alloc: Global, known: Imei, login: &[u8]) -> Result<u8, NoMe
 
 /// Archives the records of a frame that the device doesn't have yet, each once, and answers the frame's number of records;
 /// None where the bytes are no whole frame.
-pub fn take_frame(alloc: Global, archive: &mut WideList, frame: &[u8]) -> Result<Option<u8>, NoMemory>
+pub fn take_frame(
+    alloc: Global,
+    archive: &mut WideList,
+    frame: &[u8],
+) -> Result<Option<u8>, NoMemory>
     ensures counted { IfOk result (λ count. (body : List ℕ) → frame.now ≡ frame_of body → is_plain_body body ≡ true → count ≡ Some (count_of body)) }
     ensures archived { OnOk result ((body : List ℕ) → frame.now ≡ frame_of body → is_plain_body body ≡ true → archive.new ≡ fold add_once archive.old (records_of body)) }
 {

@@ -4,9 +4,13 @@ use std::test::Fail;
 use trial_model::{DeviceEnd, ServerEnd};
 
 const DEVICE: &str = "device 356307042441013 8 16 oldest 1000 0 0 0 known\n";
+
 const FIRST: &str = "fix 356307042441013 1560161086000 0 0 0 0 0 0 0\n";
+
 const SECOND: &str = "fix 356307042441013 1560161087000 0 0 0 0 0 0 0\n";
+
 const THIRD: &str = "fix 356307042441013 1560161088000 0 0 0 0 0 0 0\n";
+
 const ROUND: &str = "round 356307042441013 7 - -\n";
 
 // The numbers of records acquired, cut, overwritten, on flash and archived of the one device, and of connections.
@@ -29,7 +33,10 @@ fn counts(alloc: Global, text: &str) -> Result<[usize; 6], PlainFault> {
 #[test]
 fn records_are_counted_once(rt: HostRuntime) -> Result<(), Fail> {
     let first_round = format!(in rt.alloc(); "{DEVICE}{FIRST}{SECOND}{THIRD}{ROUND}")?;
-    assert_eq!(rt; counts(rt.alloc(), first_round.as_str())?, [3, 0, 0, 0, 3, 1]);
+    assert_eq!(rt;
+        counts(rt.alloc(), first_round.as_str())?,
+        [3, 0, 0, 0, 3, 1]
+    );
     assert_eq!(rt; counts(rt.alloc(), DEVICE)?, [0, 0, 0, 0, 0, 0]);
     let repeated = format!(in rt.alloc(); "{DEVICE}{FIRST}{SECOND}{FIRST}{ROUND}")?;
     assert_eq!(rt; counts(rt.alloc(), repeated.as_str())?, [2, 0, 0, 0, 2, 1]);
@@ -64,10 +71,12 @@ fn the_connection_of_the_first_round(rt: HostRuntime) -> Result<(), Fail> {
 // The line at which a text is refused, 99 where it isn't.
 fn refused_line(alloc: Global, text: &str) -> u32 {
     match plain_trial(alloc, text.as_bytes()) {
-        Err(PlainFault::Line {
-            line,
-            kind: PlainKind::NotBuilt,
-        }) => line,
+        Err(
+            PlainFault::Line {
+                line,
+                kind: PlainKind::NotBuilt,
+            },
+        ) => line,
         _ => 99,
     }
 }

@@ -98,7 +98,12 @@ fn acquire(alloc: Global, script: &PlainScript) -> Result<PlainTracker, NoMemory
 }
 
 // What became of the device, with each record of its flash once.
-fn device_outcome(alloc: Global, imei: Imei, tracker: PlainTracker, archive: WideList) -> Result<DeviceOutcome, NoMemory>
+fn device_outcome(
+    alloc: Global,
+    imei: Imei,
+    tracker: PlainTracker,
+    archive: WideList,
+) -> Result<DeviceOutcome, NoMemory>
     ensures { IfOk result (λ d. d ≡ record { imei = imei; acquired = tracker.acquired; cut = []; overwritten = []; flash = first_places tracker.flash; archived = archive }) }
 {
     let flash = each_once(alloc, tracker.flash.as_slice())?;

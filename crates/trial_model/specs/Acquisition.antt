@@ -20,7 +20,7 @@ powered_up = record { last = None; watched = [] }
 -- Longitude, latitude, altitude, angle, satellites, speed (Teltonika, Data Sending Protocols, GPS element).
 unfoldable pub gps_bytes : Gps → List ℕ
 gps_bytes gps = to_be_bytes w32 (cast_unsigned w32 gps.longitude) ++ (to_be_bytes w32 (cast_unsigned w32 gps.latitude)
-  ++ (to_be_bytes w16 (cast_unsigned w16 gps.altitude) ++ (to_be_bytes w16 gps.angle ++ (gps.satellites ∷ to_be_bytes w16 gps.speed))))
+    ++ (to_be_bytes w16 (cast_unsigned w16 gps.altitude) ++ (to_be_bytes w16 gps.angle ++ (gps.satellites ∷ to_be_bytes w16 gps.speed))))
 
 -- a record with priority 0, event 0 and no elements (Teltonika, Data Sending Protocols, Codec 8)
 unfoldable pub bytes_of : Fix → List ℕ

@@ -1,9 +1,7 @@
 -- What the server answered, and how a connection ended on both sides.
-use Rattle.std.specs.Prelude.{ℕ, ◌+◌, ◌*◌, ◌-◌, ◌≡◌, ◌↔◌, ◌⊎◌, ◌≤◌, ◌<◌, nat_le, not, Bool, true, false, List, [], ◌∷◌, ◌++◌, length, take, slice_get, Option, Some, None, if◌then◌else◌}
+use Rattle.std.specs.Prelude.{ℕ, ◌+◌, ◌*◌, ◌-◌, ◌≡◌, ◌↔◌, ◌⊎◌, ◌≤◌, ◌<◌, nat_le, not, Bool, true, false, List, [], ◌∷◌, ◌++◌, length, take, slice_get, Option, Some, if◌then◌else◌}
 use Rattle.std.specs.List.{All, list_any}
 use Rattle.avl_values.specs.Record.{Record}
-use Rattle.avl_values.specs.declared.fault.Fault.{Fault}
-use Rattle.trial_model.specs.declared.got.Got.{Got}
 use Rattle.trial_model.specs.declared.outcome.ConnectionOutcome.{ConnectionOutcome}
 use Rattle.trial_model.specs.declared.outcome.DeviceEnd.{DeviceEnd}
 use Rattle.trial_model.specs.declared.outcome.DeviceEnd.TheVariants as End

@@ -66,9 +66,9 @@ connections_after h (Line.Device imei codec slots order period distance angle sp
 connections_after h (Line.Setting imei setting) = h.connections
 connections_after h (Line.Fix imei fix) = h.connections
 connections_after h (Line.Round imei piece up down) = if_covered h.fuse
-  (h.connections ++ opened h.lines (Line.Round imei piece up down) (record { imei = imei; drains = false; up = up; down = down }) ∷ [])
+    (h.connections ++ opened h.lines (Line.Round imei piece up down) (record { imei = imei; drains = false; up = up; down = down }) ∷ [])
 connections_after h (Line.Drain imei piece) = if_covered h.fuse
-  (h.connections ++ opened h.lines (Line.Drain imei piece) (record { imei = imei; drains = true; up = None; down = None }) ∷ [])
+    (h.connections ++ opened h.lines (Line.Drain imei piece) (record { imei = imei; drains = true; up = None; down = None }) ∷ [])
 connections_after h (Line.Late connection bytes) = if_covered h.fuse (at_number (with_more bytes) connection h.connections)
 connections_after h (Line.Close connection) = at_number closed connection h.connections
 connections_after h (Line.Power (Who.Device imei)) = h.connections

@@ -5,7 +5,6 @@ use Rattle.std.specs.List.{fold}
 use Rattle.trial_model.specs.declared.script.ScriptLine.{ScriptLine}
 use Rattle.trial_model.specs.declared.script.ScriptLine.TheVariants as Line
 use Rattle.trial_model.specs.declared.script.Who.{Who}
-use Rattle.trial_model.specs.declared.script.Who.TheVariants as Who
 
 abbrev pub is_who : Who → Who → Bool
 is_who (Who.Device a) (Who.Device b) = a == b

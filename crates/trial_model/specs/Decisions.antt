@@ -7,7 +7,6 @@ use Rattle.trial_model.specs.declared.outcome.DeviceEnd.{DeviceEnd}
 use Rattle.trial_model.specs.declared.script.ScriptLine.{ScriptLine}
 use Rattle.trial_model.specs.declared.script.ScriptLine.TheVariants as Line
 use Rattle.trial_model.specs.declared.script.Who.{Who}
-use Rattle.trial_model.specs.declared.script.Who.TheVariants as Who
 use Rattle.trial_model.specs.Acquisition.{Watching, decided, powered_up}
 use Rattle.trial_model.specs.Cover.{is_who}
 use Rattle.trial_model.specs.Load.{load_by, one_more}
@@ -88,7 +87,10 @@ after_fix device h fix = record {
 
 abbrev pub after_connection : Bool → Option DeviceEnd → DeviceHistory → DeviceHistory
 after_connection drains end h = record {
-  decisions = h.decisions; watching = unless_covered h.fuse h.watching; fuse = None; load = load_by drains end h.load;
+  decisions = h.decisions;
+  watching = unless_covered h.fuse h.watching;
+  fuse = None;
+  load = load_by drains end h.load;
 }
 
 abbrev pub after_line : Device → DeviceHistory → Option DeviceEnd → ScriptLine → DeviceHistory

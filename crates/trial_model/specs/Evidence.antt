@@ -10,4 +10,4 @@ use Rattle.trial_model.specs.Frames.{records_in}
 pub record HasEvidence (logs : List ConnectionOutcome) (d : DeviceOutcome) : Type 0 where
   pub delivered : All (λ r. Any (λ c. (c.imei ≡ d.imei) × Contains (records_in (delivered_of c)) r) logs) d.archived
   pub heard : All (λ r. Contains d.flash r ⊎ Contains d.overwritten r ⊎ Contains d.cut r
-    ⊎ (Contains d.archived r × Any (λ c. (c.imei ≡ d.imei) × Contains (records_in (heard_of c)) r) logs)) d.acquired
+      ⊎ (Contains d.archived r × Any (λ c. (c.imei ≡ d.imei) × Contains (records_in (heard_of c)) r) logs)) d.acquired

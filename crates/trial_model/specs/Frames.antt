@@ -45,7 +45,7 @@ frames_from zero place bytes = record { frames = []; rest = bytes }
 frames_from (suc most) place bytes =
     if has_frame bytes
     then with_frame (record { end = place + (12 + length (body_at bytes)); records = records_of (body_at bytes) })
-      (frames_from most (place + (12 + length (body_at bytes))) (drop (12 + length (body_at bytes)) bytes))
+    (frames_from most (place + (12 + length (body_at bytes))) (drop (12 + length (body_at bytes)) bytes))
     else record { frames = []; rest = bytes }
 
 -- what stands behind the login: frames, and a rest that begins with none

@@ -60,7 +60,7 @@ pub record KeptRecords (script : Script) (outcome : Results) : Type 0 where
 -- A round delivered whole empties its batch, and a device's flash has no more records than its load allows.
 pub record HasWholeRounds (script : Script) (outcome : Results) : Type 0 where
   pub rounds : EachConnection (λ n h c. IsWholeRound (is_known h.opening.imei (devices_of (lines_of script))) h.opening
-    (archived_of h.opening.imei outcome.devices) c) (lines_of script) outcome
+      (archived_of h.opening.imei outcome.devices) c) (lines_of script) outcome
   pub room : EachDevice (λ device d. length d.flash ≤ (history_by outcome (lines_of script) device).load) (lines_of script) outcome
 
 -- The whole.
@@ -73,5 +73,5 @@ pub record Kept (script : Script) (outcome : Results) : Type 0 where
   pub logs : EachConnection (λ n h c. HasWholeLog (earlier_records h.opening.imei (devices_of (lines_of script)) (steps_of h.before (ends_of outcome.connections))) h c) (lines_of script) outcome
   pub evidence : EachDevice (λ device d. HasEvidence outcome.connections d) (lines_of script) outcome
   pub answers : EachConnection (λ n h c. HasAnswers (lines_of script) outcome.connections (is_known h.opening.imei (devices_of (lines_of script)))
-    (archived_of h.opening.imei outcome.devices) (cover_on (Who.Device h.opening.imei) (fuse_of (Who.Device h.opening.imei) h.before) h.line) n h c) (lines_of script) outcome
+      (archived_of h.opening.imei outcome.devices) (cover_on (Who.Device h.opening.imei) (fuse_of (Who.Device h.opening.imei) h.before) h.line) n h c) (lines_of script) outcome
   pub whole_rounds : HasWholeRounds script outcome

@@ -1,6 +1,5 @@
 -- How many slots of a device's flash may be open: an upper bound, by the script's lines and the ends of its connections.
 use Rattle.std.specs.Prelude.{ℕ, ◌+◌, ◌-◌, min, Bool, true, false, Option, Some, None}
-use Rattle.trial_model.specs.declared.got.Got.{Got}
 use Rattle.trial_model.specs.declared.outcome.DeviceEnd.{DeviceEnd}
 use Rattle.trial_model.specs.declared.outcome.DeviceEnd.TheVariants as End
 

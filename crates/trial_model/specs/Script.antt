@@ -43,8 +43,16 @@ setting_on imei (Line.Fuse who calls tear) = None
 -- the device of a line, with its settings among all lines
 abbrev pub device_on : List ScriptLine → ScriptLine → Option Device
 device_on lines (Line.Device imei codec slots order period distance angle speed known) = Some (record {
-  imei = imei; codec = codec; slots = slots; order = order; period = period; distance = distance;
-  angle = angle; speed = speed; known = known; settings = filter_map (setting_on imei) lines;
+  imei = imei;
+  codec = codec;
+  slots = slots;
+  order = order;
+  period = period;
+  distance = distance;
+  angle = angle;
+  speed = speed;
+  known = known;
+  settings = filter_map (setting_on imei) lines;
 })
 device_on lines (Line.Setting who setting) = None
 device_on lines (Line.Fix who fix) = None

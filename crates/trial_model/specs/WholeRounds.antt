@@ -2,7 +2,6 @@
 -- or the server's medium failed. Done(n) has n records in its frames, all heard and archived, in one frame on a round.
 use Rattle.std.specs.Prelude.{ℕ, ◌≡◌, Bool, true, false, List, length}
 use Rattle.avl_values.specs.Record.{Record}
-use Rattle.trial_model.specs.declared.got.Got.{Got}
 use Rattle.trial_model.specs.declared.outcome.ConnectionOutcome.{ConnectionOutcome}
 use Rattle.trial_model.specs.declared.outcome.DeviceEnd.{DeviceEnd}
 use Rattle.trial_model.specs.declared.outcome.DeviceEnd.TheVariants as End

@@ -1,11 +1,9 @@
 ghost use Rattle.std.specs.Prelude.{◌≡◌, ◌<◌, ◌++◌, [], ◌∷◌, length, slice_get, Some, OnOk, OnErr};
 
+use crate::got::Got;
+use avl_values::{ByteList, Fault, Imei, NoMemory, RecList, WideList};
 use std::alloc::Global;
 use std::marker::Model;
-
-use avl_values::{ByteList, Fault, Imei, NoMemory, RecList, WideList};
-
-use crate::got::Got;
 
 /// How a connection ended for its device.
 #[derive(Clone, Copy, Debug, PartialEq, Eq)]

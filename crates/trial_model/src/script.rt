@@ -1,9 +1,8 @@
-use avl_values::{Codec, Imei};
-
 use crate::fix::Fix;
 use crate::io_setting::IoSetting;
 use crate::order::Order;
 use crate::tear::Tear;
+use avl_values::{Codec, Imei};
 
 /// Whose medium a `power` or a `fuse` line speaks of.
 #[derive(Clone, Copy, Debug, PartialEq, Eq)]
@@ -29,9 +28,15 @@ pub enum ScriptLine {
         known: bool,
     },
     /// One more I/O setting of a device.
-    Setting { imei: Imei, setting: IoSetting },
+    Setting {
+        imei: Imei,
+        setting: IoSetting,
+    },
     /// A fix is given to the device, which stores the records that it makes.
-    Fix { imei: Imei, fix: Fix },
+    Fix {
+        imei: Imei,
+        fix: Fix,
+    },
     /// One connection with at most one packet, in pieces of at most `piece` bytes; at most `up` bytes are delivered to
     /// the server and `down` bytes to the device.
     Round {
@@ -41,16 +46,27 @@ pub enum ScriptLine {
         down: Option<u32>,
     },
     /// One connection with as many packets as it takes, with no limit either way.
-    Drain { imei: Imei, piece: u32 },
+    Drain {
+        imei: Imei,
+        piece: u32,
+    },
     /// The next bytes that are on the way on a half-open connection reach the server. Connections are numbered from 1.
     Late {
         connection: u32,
         bytes: Option<u32>,
     },
     /// The server sees the end of a half-open connection.
-    Close { connection: u32 },
+    Close {
+        connection: u32,
+    },
     /// A power loss between two medium calls, and power-up.
-    Power { who: Who },
+    Power {
+        who: Who,
+    },
     /// The next line of this medium has a power loss after so many medium calls, with this tear.
-    Fuse { who: Who, calls: u64, tear: Tear },
+    Fuse {
+        who: Who,
+        calls: u64,
+        tear: Tear,
+    },
 }

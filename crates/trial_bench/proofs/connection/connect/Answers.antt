@@ -1,4 +1,4 @@
-use Rattle.std.proofs.Common.{refl, sym, ◌∙◌}
+use Rattle.std.proofs.Common.{◌∙◌}
 use Rattle.trial_bench.proofs.Talks.{quiet}
 use Rattle.trial_bench.proofs.connection.connect.Goals as goal
 

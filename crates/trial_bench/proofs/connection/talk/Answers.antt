@@ -1,5 +1,4 @@
-use Rattle.std.proofs.Common.{◌≡◌, ◌++◌, ◌∷◌, length, Some, refl, ap, ◌∙◌}
-use Rattle.std.specs.Int.{to_be_bytes, w32}
+use Rattle.std.proofs.Common.{◌≡◌, length, Some, refl, ap, ◌∙◌}
 use Rattle.trial_model.specs.Frames.{frame_of}
 use Rattle.trial_bench.specs.PlainConnection.{down_of, up_of}
 use Rattle.trial_bench.specs.PlainFrame.{body_of}

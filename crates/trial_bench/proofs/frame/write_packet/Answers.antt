@@ -1,4 +1,4 @@
-use Rattle.std.proofs.Common.{length, ◌∙◌, arith}
+use Rattle.std.proofs.Common.{◌∙◌, arith}
 use Rattle.std.proofs.lemmas.List.{length-map}
 use Rattle.avl_values.specs.Viewed.{record_of, records_of}
 use Rattle.trial_bench.proofs.Bodies.{body_small}

@@ -1,5 +1,4 @@
-use Rattle.std.proofs.Common.{◌≡◌, true, sym, ◌∙◌}
-use Rattle.trial_model.specs.RecordLists.{is_same}
+use Rattle.std.proofs.Common.{sym, ◌∙◌}
 use Rattle.avl_values.specs.Viewed.{record_of}
 use Rattle.trial_bench.proofs.Records.{listed_at}
 use Rattle.trial_bench.proofs.record.is_listed.Goals as goal

@@ -1,4 +1,4 @@
-use Rattle.std.proofs.Common.{◌≡◌, ◌≤◌, ◌*◌, ◌-◌, length, sym, ◌∙◌, arith}
+use Rattle.std.proofs.Common.{◌≡◌, ◌≤◌, ◌*◌, ◌-◌, length, arith}
 use Rattle.trial_bench.proofs.Bodies.{pieces_none, pieces_some}
 use Rattle.trial_bench.proofs.server.store.Goals as goal
 

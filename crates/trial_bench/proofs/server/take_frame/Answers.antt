@@ -1,4 +1,4 @@
-use Rattle.std.proofs.Common.{sym, ◌∙◌}
+use Rattle.std.proofs.Common.{◌∙◌}
 use Rattle.trial_bench.proofs.Bodies.{not_other, same_frame}
 use Rattle.trial_bench.proofs.server.take_frame.Goals as goal
 

@@ -1,4 +1,4 @@
-use Rattle.std.proofs.Common.{◌≡◌, ◌≤◌, length, sym, ap, ◌∙◌, arith}
+use Rattle.std.proofs.Common.{ap, ◌∙◌}
 use Rattle.trial_model.specs.RecordLists.{first_places}
 use Rattle.trial_bench.proofs.Acquiring.{acquired_step, made_all, made_step}
 use Rattle.trial_bench.proofs.trial.acquire.Goals as goal
@@ -10,10 +10,11 @@ loop-numbered-preserved c =
     let f = c.numbered-item.result in
     let items = c.deref-numbered-items.ensures.value in
     let below = rw items at c.loop-numbered-test.true in
-    let is = rw items at c.numbered-item.is in
-    (c.in_ok-take_fix.ensures.period ∙ c.loop-numbered.invariant.0,
+    let is = rw items at c.numbered-item.is in (
+      c.in_ok-take_fix.ensures.period ∙ c.loop-numbered.invariant.0,
       acquired_step old new f c.in_ok-take_fix.ensures c.loop-numbered.invariant.1,
-      made_step old new c.args.script.now.fixes.items c.loop-numbered.numbered-index f _ below is c.in_ok-take_fix.ensures c.loop-numbered.invariant.2)
+      made_step old new c.args.script.now.fixes.items c.loop-numbered.numbered-index f _ below is c.in_ok-take_fix.ensures c.loop-numbered.invariant.2,
+    )
 
 pub returns-clause-flash : goal.returns-clause-flash
 returns-clause-flash c =

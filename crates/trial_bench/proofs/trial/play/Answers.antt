@@ -1,4 +1,4 @@
-use Rattle.std.proofs.Common.{◌≡◌, ◌≤◌, None, length, arith}
+use Rattle.std.proofs.Common.{None, arith}
 use Rattle.trial_bench.proofs.Acquiring.{made_are_plain, made_few}
 use Rattle.trial_bench.proofs.trial.play.Goals as goal
 
