@@ -1,1 +1,2 @@
+pub mod NxLists
 pub mod Places

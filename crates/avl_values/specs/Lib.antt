@@ -2,5 +2,9 @@ pub mod Causes
 pub mod Codec
 pub mod FaultKind
 pub mod Imei
+pub mod IoElement
+pub mod NxElements
 pub mod Record
+pub mod RecordValue
 pub mod Viewed
+pub mod Width

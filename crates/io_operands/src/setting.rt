@@ -49,3 +49,17 @@ pub struct IoSetting {
     /// The priority of a record that it makes.
     pub priority: u8,
 }
+
+impl Default for IoSetting {
+    /// An element of one byte that never makes a record: what an array has where no setting stands yet.
+    fn default() -> IoSetting {
+        IoSetting {
+            id: 0,
+            width: 1,
+            operand: Operand::Monitoring,
+            low: 0,
+            high: 0,
+            priority: 0,
+        }
+    }
+}

@@ -75,3 +75,10 @@ impl IoSetting {
         }
     }
 }
+
+impl Default for Watch {
+    /// Watches the default setting.
+    fn default() -> Watch {
+        Watch::new(IoSetting::default())
+    }
+}

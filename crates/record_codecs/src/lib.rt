@@ -1,7 +1,29 @@
-//! Record bodies of the data protocol. For now Codec 8 records without elements alone: `is_record` tells one record, and
-//! `plain_count` the number of records of one data body.
+//! AVL records and data bodies of Codec 8, Codec 8 Extended and Codec 16 as code: a body judged to its first fault, whole or
+//! byte by byte; its records and what each says, as slices of the body; records spelled from values, and bodies made of
+//! records.
 #![tactic(auto)]
 
-mod plain;
+mod cursor;
+mod elements;
+mod in_record;
+mod machine;
+mod number;
+mod reading;
+mod record;
+mod record_iter;
+mod record_view;
+mod scanning;
+mod verdict;
 
-pub use plain::{is_record, plain_count};
+pub use elements::{Ios, Nxs};
+pub use machine::RecordMachine;
+pub use reading::{records, view};
+pub use record::is_record;
+pub use record_iter::Records;
+pub use record_layout::PacketHead;
+pub use record_view::RecordView;
+pub use scanning::{read_packet, scan};
+pub use verdict::Scan;
+
+#[cfg(test)]
+mod tests;

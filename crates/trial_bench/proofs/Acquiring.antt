@@ -3,7 +3,7 @@ use Rattle.std.proofs.Common.{◌≡◌, ◌+◌, ◌<◌, ◌≤◌, ℕ, Bool,
 use Rattle.std.proofs.lemmas.List.{append-nil, drop_all, drop_more}
 use Rattle.std.proofs.lemmas.List.Sums.{fold-append}
 use Rattle.avl_values.specs.Record.{Record}
-use Rattle.record_codecs.specs.PlainBody.{plain_record}
+use Rattle.plain_records.specs.PlainBody.{plain_record}
 use Rattle.trial_model.specs.Acquisition.{bytes_of}
 use Rattle.trial_model.specs.RecordLists.{add_once, first_places}
 use Rattle.trial_bench.specs.PlainFrame.{ArePlain}

@@ -10,8 +10,8 @@ use Rattle.std.proofs.lemmas.Nat.{from_be_bytes-to_be_bytes_4}
 use Rattle.std.proofs.lemmas.Slice.Eq.{bytes_eq-Decides}
 use Rattle.avl_values.specs.Record.{Record}
 use Rattle.crc_field.specs.Crc.{crc_of}
-use Rattle.record_codecs.specs.PlainBody.{count_of, is_body_of, is_plain_body, pieces, plain_record, records_of}
-use Rattle.record_codecs.specs.SomeRecord.{is_plain_record}
+use Rattle.plain_records.specs.PlainBody.{count_of, is_body_of, is_plain_body, pieces, plain_record, records_of}
+use Rattle.plain_records.specs.SomeRecord.{is_plain_record}
 use Rattle.trial_model.specs.Acquisition.{bytes_of, gps_bytes}
 use Rattle.trial_model.specs.Frames.{body_at, frame_of}
 use Rattle.trial_model.specs.declared.fix.Fix.{Fix}

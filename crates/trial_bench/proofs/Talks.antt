@@ -1,6 +1,6 @@
 -- The connection that was talked over.
 use Rattle.std.proofs.Common.{◌≡◌, ℕ, ◌<◌, ◌≤◌, true, List, [], ◌∷◌, length, fold, Option, Some, None, refl, sym, ap, ◌∙◌, arith}
-use Rattle.record_codecs.specs.PlainBody.{count_of, is_plain_body, records_of}
+use Rattle.plain_records.specs.PlainBody.{count_of, is_plain_body, records_of}
 use Rattle.trial_model.specs.Frames.{frame_of}
 use Rattle.trial_model.specs.RecordLists.{add_once}
 use Rattle.trial_bench.specs.PlainFrame.{ArePlain, body_of}

@@ -3,8 +3,8 @@
 use Rattle.std.specs.Prelude.{ℕ, ◌≡◌, true, List, [], ◌∷◌, ◌++◌, length}
 use Rattle.std.specs.List.{flat_map}
 use Rattle.avl_values.specs.Record.{Record}
-use Rattle.record_codecs.specs.PlainBody.{plain_record}
-use Rattle.record_codecs.specs.SomeRecord.{is_plain_record}
+use Rattle.plain_records.specs.PlainBody.{plain_record}
+use Rattle.plain_records.specs.SomeRecord.{is_plain_record}
 
 abbrev pub body_of : List Record → List ℕ
 body_of records = 8 ∷ length records ∷ (flat_map (λ r. r.bytes) records ++ length records ∷ [])

@@ -3,7 +3,7 @@ use Rattle.std.specs.Prelude.{ℕ, ◌≡◌, ◌==◌, ◌&&◌, ◌++◌, nat_
 use Rattle.std.specs.Int.{abs_diff}
 use Rattle.std.specs.List.{fold}
 use Rattle.avl_values.specs.Record.{Record}
-use Rattle.record_codecs.specs.PlainBody.{plain_record}
+use Rattle.plain_records.specs.PlainBody.{plain_record}
 use Rattle.trial_model.specs.Acquisition.{bytes_of}
 use Rattle.trial_model.specs.RecordLists.{add_once}
 use Rattle.trial_model.specs.declared.fix.Fix.{Fix}

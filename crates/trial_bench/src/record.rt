@@ -2,7 +2,7 @@ ghost use Rattle.std.specs.Prelude.{◌≡◌, ◌+◌, ◌≤◌, ◌++◌, OnO
 ghost use Rattle.arrayvec.specs.ArrayVec.{array_vec_len};
 ghost use Rattle.avl_values.specs.Codec.{is_codec};
 ghost use Rattle.avl_values.specs.Viewed.{record_of, records_of};
-ghost use Rattle.record_codecs.specs.PlainBody.{plain_record};
+ghost use Rattle.plain_records.specs.PlainBody.{plain_record};
 ghost use Rattle.trial_model.specs.Acquisition.{bytes_of, gps_bytes};
 ghost use Rattle.trial_model.specs.RecordLists.{add_once, is_listed, is_same};
 

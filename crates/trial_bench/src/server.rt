@@ -1,14 +1,14 @@
 ghost use Rattle.std.specs.Prelude.{◌≡◌, ◌≤◌, ◌*◌, ℕ, List, Some, true, map, length, IfOk, OnOk, if◌then◌else◌};
 ghost use Rattle.std.specs.List.{fold};
 ghost use Rattle.std.specs.Str.{bytes_eq};
-ghost use Rattle.record_codecs.specs.PlainBody.{count_of, is_plain_body, pieces, plain_record, records_of};
+ghost use Rattle.plain_records.specs.PlainBody.{count_of, is_plain_body, pieces, plain_record, records_of};
 ghost use Rattle.trial_model.specs.Frames.{frame_of, login_of};
 ghost use Rattle.trial_model.specs.RecordLists.{add_once};
 
 use crate::frame::{body_in, write_frame, write_login};
 use crate::record::add_wide_once;
 use avl_values::{Codec, Imei, NoMemory, WideList};
-use record_codecs::plain_count;
+use plain_records::plain_count;
 use std::alloc::Global;
 
 /// The answer to a login that is accepted.

@@ -6,7 +6,7 @@ use Rattle.std.specs.Int.{from_be_bytes, to_be_bytes, w16, w32}
 use Rattle.avl_values.specs.Imei.{imei_text}
 use Rattle.avl_values.specs.Record.{Record}
 use Rattle.crc_field.specs.Crc.{crc_of}
-use Rattle.record_codecs.specs.PlainBody.{is_plain_body, records_of}
+use Rattle.plain_records.specs.PlainBody.{is_plain_body, records_of}
 
 -- the length 15 in two bytes, and the 15 digits
 abbrev pub login_of : ℕ → List ℕ

@@ -1,5 +1,5 @@
 use Rattle.std.proofs.Common.{ℕ, length, ap, arith, length-append}
-use Rattle.record_codecs.specs.PlainBody.{plain_record}
+use Rattle.plain_records.specs.PlainBody.{plain_record}
 use Rattle.trial_bench.proofs.Records.{fix_joined, gps_length}
 use Rattle.trial_bench.proofs.record.record_of_fix.Goals as goal
 

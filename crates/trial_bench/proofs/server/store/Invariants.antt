@@ -1,5 +1,5 @@
 use Rattle.std.proofs.Common.{◌≡◌, ◌≤◌, ◌*◌, length, map, fold}
-use Rattle.record_codecs.specs.PlainBody.{pieces, plain_record}
+use Rattle.plain_records.specs.PlainBody.{pieces, plain_record}
 use Rattle.trial_model.specs.RecordLists.{add_once}
 use Rattle.trial_bench.proofs.server.store.Given as goal
 

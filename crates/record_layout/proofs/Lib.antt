@@ -1,0 +1,6 @@
+pub mod Fitting
+pub mod Following
+pub mod PacketFills
+pub mod ReadLaws
+pub mod RecordFills
+pub mod Table
