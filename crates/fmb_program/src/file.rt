@@ -15,10 +15,7 @@ impl<R: Read + Drop> FileText<R> {
     pub fn new(reader: R) -> FileText<R>
         ensures { result.faults ≡ 0 }
     {
-        FileText {
-            reader,
-            faults: 0,
-        }
+        FileText { reader, faults: 0 }
     }
 }
 

@@ -12,9 +12,8 @@ use crate::output::Output;
 use crate::system::System;
 use fmb_run::{give_up, run};
 use std::alloc::{AllocError, Global};
-use std::env;
-use std::io;
 use std::process::ExitCode;
+use std::{env, io};
 
 /// The words behind the program's name. Words that are no UTF-8 are none that the program knows: there are none then.
 fn words_of(rt: &HostRuntime) -> Result<Vec<String>, AllocError> {

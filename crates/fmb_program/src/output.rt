@@ -14,10 +14,7 @@ pub struct Output<W> {
 
 impl<W: Write + Drop> Output<W> {
     pub fn new(writer: W) -> Output<W> {
-        Output {
-            writer,
-            faults: 0,
-        }
+        Output { writer, faults: 0 }
     }
 }
 

@@ -40,6 +40,7 @@ impl<F: Files + Drop, W: Write + Drop> System<F, W> {
 
 impl<F: Files + Drop, W: Write + Drop> Host for System<F, W> {
     type Text = FileText<F::File>;
+
     type Out = Output<W>;
 
     ghost view = { λ h. record { counts = h.counts; kept = h.kept; sink = h.out; texts = None; texts_back = None } };

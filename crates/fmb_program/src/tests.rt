@@ -16,7 +16,11 @@ fn adapters_count_their_failures(rt: HostRuntime) {
     assert_eq!(rt; out.write(b"abc").ok(), Some(2));
     assert_eq!(rt; out.write(b"").ok(), Some(0));
     assert_eq!(rt; out.faults(), 0);
-    assert_eq!(rt; out.write(b"c").ok(), None, "a write of nothing is a failure");
+    assert_eq!(rt;
+        out.write(b"c").ok(),
+        None,
+        "a write of nothing is a failure"
+    );
     assert_eq!(rt; out.faults(), 1);
 }
 

@@ -1,10 +1,10 @@
 -- What a trial comes to, put together of its steps.
-use Rattle.std.proofs.Common.{◌≡◌, ◌≢◌, ◌⊎◌, ◌+◌, ℕ, Bool, List, Option, Some, IfSome, refl, sym, ◌∙◌, ap, inl, inr, arith}
+use Rattle.std.proofs.Common.{◌≡◌, ◌+◌, ℕ, Bool, List, Option, IfSome, refl, ◌∙◌, ap, inl, inr, arith}
 use Rattle.std.specs.Prelude.{codes}
-use Rattle.fmb_host.specs.Host.{HostView, HandsOut, TakesBack, LosesFirst, GainsLast, with_host_fault}
+use Rattle.fmb_host.specs.Host.{HostView, HandsOut, TakesBack, with_host_fault}
 use Rattle.fmb_run.proofs.ReadLemmas.{same_script}
 use Rattle.fmb_run.specs.Printed.{Prints}
-use Rattle.fmb_run.specs.Text.{IsOpened, IsReadOf, IsReturned, ReadsText}
+use Rattle.fmb_run.specs.Text.{IsReadOf, IsReturned, ReadsText}
 use Rattle.fmb_run.specs.Trial.{RanTrial}
 
 module _ {Text Out : Type 0} where

@@ -1,5 +1,5 @@
 -- What a trial that was read from a host comes to, by its status (this project's own).
-use Rattle.std.specs.Prelude.{◌≡◌, ◌≢◌, ◌⊎◌, ◌+◌, ◌≤◌, ℕ, Bool, List, Option, Some, IfSome, Result, Ok, Err, codes}
+use Rattle.std.specs.Prelude.{◌≡◌, ◌≢◌, ◌⊎◌, ◌+◌, ℕ, Bool, List, Option, Some, Ok, Err, codes}
 use Rattle.fmb_host.specs.Host.{HostView}
 use Rattle.fmb_run.specs.Printed.{Prints, PrintsFront, PrintsWhole, SinkFailed}
 use Rattle.fmb_run.specs.Text.{IsOpened, IsReturned}

@@ -1,4 +1,4 @@
-use Rattle.std.proofs.Common.{◌≡◌, ◌≤◌, ◌+◌, ◌-◌, ◌^◌, length, min, arith}
+use Rattle.std.proofs.Common.{◌≡◌, ◌≤◌, ◌-◌, ◌^◌, length, arith}
 use Rattle.fmb_run.proofs.ReadLemmas.{read_enough}
 use Rattle.fmb_run.proofs.reading.read_pieces.Goals as goal
 

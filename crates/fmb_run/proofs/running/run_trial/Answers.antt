@@ -1,4 +1,4 @@
-use Rattle.std.proofs.Common.{◌≡◌, Err, ap, ◌∙◌}
+use Rattle.std.proofs.Common.{Err, ap, ◌∙◌}
 use Rattle.fmb_run.proofs.RunLemmas.{host_ran, source_ran}
 use Rattle.fmb_run.proofs.running.run_trial.Goals as goal
 
