@@ -1,4 +1,4 @@
-use Rattle.std.proofs.Common.{◌≡◌, length, take}
+use Rattle.std.proofs.Common.{length, take}
 use Rattle.record_codecs.specs.Machines.{HasTaken}
 use Rattle.record_codecs.proofs.tests.both.Given as goal
 
