@@ -1,0 +1,6 @@
+pub mod Entries
+pub mod Held
+pub mod Images
+pub mod Refusal
+pub mod Ring
+pub mod Slot
