@@ -2,7 +2,7 @@
 use Rattle.std.proofs.Common.{◌≡◌, ◌≢◌, ◌⊎◌, inl, inr, ℕ, zero, suc, ◌+◌, ◌-◌, ◌*◌, ◌<◌, ◌≤◌, max, ◌==◌, ◌||◌, Bool, true, false, IsTrue, List, [], ◌∷◌, ◌++◌, length, get_or, set, take, replicate, Option, Some, None, slice_get, sym, ◌∙◌, ap, refl, subst, arith, mul-le-mul_left, length-set, length-append, get_or-set_same, get_or-set_other}
 use Rattle.std.proofs.lemmas.Bool.{cases_lt, cases_eq, eq-eqb, false≢true}
 use Rattle.std.proofs.lemmas.Bool.Decides.{eqb_tells}
-use Rattle.std.proofs.lemmas.List.{get_or_past, length-replicate, take_more, take_all}
+use Rattle.std.proofs.lemmas.List.{ext_get_or, get_or_past, length-replicate, take_more, take_all}
 use Rattle.std.proofs.lemmas.Option.{get_or_from_slice_get, slice_get_within, slice_get-get_or, slice_get_past}
 use Rattle.medium.specs.CallsLeft.{CallsLeft, unknown, unlimited, after, exhausted, Passes, Fails}
 use Rattle.medium.specs.Content.{Content, IsImage, settled, written, after_write, after_sync}
@@ -11,7 +11,7 @@ use Rattle.medium.proofs.Images.{SameOutside, written-outside, counted-then}
 use Rattle.medium.proofs.Written.{length-written, get_or-written_before, get_or-written_there, get_or-written_behind}
 use Rattle.flash_ring.specs.Held.{Held, closed_all}
 use Rattle.flash_ring.specs.Slot.{slot_of, slot_bytes, slots_of, IsFlash, HoldsSound, IsSoundSlot}
-use Rattle.flash_ring.specs.Images.{IsSettled, HoldsWith, MayClose, OthersStay, AreOpen, has_slot, reached}
+use Rattle.flash_ring.specs.Images.{IsSettled, HoldsWith, IsEither, unchanged, changed, MayClose, OthersStay, AreOpen, has_slot, reached}
 use Rattle.flash_ring.proofs.Slots.{slot_bytes-at, slot_bytes-same, slots_of-at, length-slots_of, slot_of-closed, gate-open}
 use Rattle.flash_ring.proofs.Stores.{settled_images}
 use Rattle.flash_ring.proofs.Writes.{flash-set, slots-set, others-outside}
@@ -394,3 +394,41 @@ module _ (held : List (Option Held)) (xs : List ℕ) (opens : AreOpen xs held) (
           (λ fails. passed ((counted-then counted then_counted).fails (let P : ℕ → Type 0 = λ m. Fails (m + 1) start.left in subst P (sym done) fails)))
           (subst (MayClose xs held) (sym is) (may-close_all xs held)))
         (exit-closed done synced).0
+
+pub only_here : (k j : ℕ) → IsTrue (has_slot (k ∷ []) j) → k ≡ j
+only_here k j is = elim (has-cases k j false is) as (λ _. k ≡ j) [ inl same ↦ same | inr never ↦ absurd (false≢true never) ]
+
+-- a list that is the other's at a place
+same_get : (a b : List (Option Held)) (j : ℕ) → slice_get a j ≡ slice_get b j → j < length a → j < length b → get_or a j None ≡ get_or b j None
+same_get a b j same low_a low_b =
+    let here : Some (get_or a j None) ≡ Some (get_or b j None) = sym (slice_get-get_or a j None low_a) ∙ same ∙ slice_get-get_or b j None low_b in cc
+
+cases_none : (x : Option Held) → (x ≡ None) ⊎ (x ≡ None → ⊥)
+cases_none None = inl refl
+cases_none (Some h) = inr (λ e. cc)
+
+only_one : (left : CallsLeft) (k j : ℕ) → IsTrue (has_slot (reached left (k ∷ [])) j) → k ≡ j
+only_one unknown k j is = only_here k j is
+only_one unlimited k j is = only_here k j is
+only_one (after m) k j is = only_here k j (has_slot-take (m + 1) (k ∷ []) j is)
+only_one exhausted k j is = only_here k j is
+
+-- one slot alone
+pub closes-one : (left : CallsLeft) (k : ℕ) (before slots : List (Option Held)) → k < length before → MayClose (reached left (k ∷ [])) before slots → IsEither before (set before k None) slots
+closes-one left k before slots low may =
+    let one = λ (j : ℕ) (is : IsTrue (has_slot (reached left (k ∷ [])) j)). only_one left k j is in
+    elim (cases_none (get_or slots k None)) as (λ _. IsEither before (set before k None) slots) [
+      inl none ↦ changed (ext_get_or None slots (set before k None) (may.size ∙ sym (length-set before k None)) (λ j below.
+        elim (cases_eq j k) as (λ _. get_or slots j None ≡ get_or (set before k None) j None) [
+          inl same ↦ ap (λ i. get_or slots i None) same ∙ none ∙ sym (get_or-set_same before k None None low) ∙ ap (λ i. get_or (set before k None) i None) (sym same)
+        | inr other ↦ elim (may.each j) as (λ _. get_or slots j None ≡ get_or (set before k None) j None) [
+            inl as_before ↦ same_get slots before j as_before (omega arith) (let size = may.size in omega arith) ∙ sym (get_or-set_other before k j None None other)
+          | inr closed ↦ absurd (other (sym (one j closed.0)))
+          ]
+        ]))
+    | inr some ↦ unchanged (ext_get_or None slots before may.size (λ j below.
+        elim (may.each j) as (λ _. get_or slots j None ≡ get_or before j None) [
+          inl as_before ↦ same_get slots before j as_before (omega arith) (let size = may.size in omega arith)
+        | inr closed ↦ absurd (some (ap (λ i. get_or slots i None) (one j closed.0) ∙ get_or_from_slice_get slots j None None closed.1))
+        ]))
+    ]

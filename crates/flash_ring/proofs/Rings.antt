@@ -1,14 +1,18 @@
 -- What stays true of a ring's slots.
-use Rattle.std.proofs.Common.{◌≡◌, ◌≢◌, ◌⊎◌, inl, inr, ℕ, zero, suc, ◌+◌, ◌-◌, ◌*◌, ◌<◌, ◌≤◌, ◌^◌, max, Bool, true, false, IsTrue, List, [], ◌∷◌, length, get_or, set, take, drop, Option, Some, None, Result, Ok, Err, OnOk, is_err, slice_get, sym, ◌∙◌, ap, refl, subst, arith, length-set, get_or-set_same, get_or-set_other}
+use Rattle.std.proofs.Common.{◌≡◌, ◌≢◌, ◌⊎◌, inl, inr, ℕ, zero, suc, ◌+◌, ◌-◌, ◌*◌, ◌<◌, ◌≤◌, ◌^◌, max, if◌then◌else◌, Bool, true, false, IsTrue, List, [], ◌∷◌, length, get_or, set, take, drop, map, Option, Some, None, Result, Ok, Err, OnOk, is_err, slice_get, sym, ◌∙◌, ap, refl, subst, arith, length-set, get_or-set_same, get_or-set_other}
 use Rattle.std.proofs.lemmas.Bool.{cases_lt, cases_eq, false≢true}
 use Rattle.std.proofs.lemmas.List.{take_all, drop_more, take_more}
-use Rattle.std.proofs.lemmas.Option.{get_or_from_slice_get, slice_get_within, slice_get-get_or}
+use Rattle.std.proofs.lemmas.Option.{get_or_from_slice_get, slice_get_within, slice_get-get_or, slice_get_past}
 use Rattle.medium.specs.State.{MediumState, IfTold, EveryImage}
-use Rattle.flash_ring.specs.Held.{Held, IsSoundHeld, AreSound, AreBelow, first_closed, put_in, is_full, next_of, closed_all}
+use Rattle.record_codecs.specs.SomeRecord.{IsSomeRecord}
+use Rattle.flash_ring.specs.Held.{Held, IsSoundHeld, AreSound, AreBelow, first_closed, put_in, is_full, next_of, closed_all, rec_in, rec_at}
 use Rattle.flash_ring.specs.Slot.{IsFlash, slots_of}
-use Rattle.flash_ring.specs.Images.{IsSettled, HoldsWith, IsEither, unchanged}
+use Rattle.flash_ring.specs.Images.{IsSettled, HoldsWith, IsEither, unchanged, AreOpen}
 use Rattle.flash_ring.specs.Ring.{RingView, IsUp, IsRing, IsDurable, EachHolds}
-use Rattle.flash_ring.proofs.Closes.{length-closed_all}
+use Rattle.flash_ring.proofs.Closes.{length-closed_all, only_here, holds-map}
+use Rattle.flash_ring.specs.declared.order.Order.TheVariants.{Oldest}
+use Rattle.flash_ring.specs.Entries.{Entry, IsOldest, entries_of, first_slot, held_of, rec_of, with_room, without_first}
+use Rattle.flash_ring.proofs.Entries.{Each, IsEntry, entries-open, oldest_there}
 use Rattle.flash_ring.proofs.Stores.{settled_images}
 
 pub durable_up : (v : RingView) → IsUp v → v.down ≡ false → IsDurable v
@@ -171,3 +175,53 @@ ring-loaded m slots n next some few size ready settled sound is = record {
 
 pub next_fits : (a slots : List (Option Held)) → a ≡ slots → AreSound slots → next_of a ≤ 2 ^ 63
 next_fits a slots is sound = let e = next_of-end slots sound in let s = ap next_of is in omega arith
+
+-- one slot read
+pub rec_at_read : (slots : List (Option Held)) (k : ℕ) (x : Option Held) → k < length slots → x ≡ get_or slots k x → rec_at slots k ≡ rec_in (Some x)
+rec_at_read slots k x low is = ap rec_in (slice_get-get_or slots k x low ∙ ap Some (sym is))
+
+pub rec_at_past : (slots : List (Option Held)) (k : ℕ) → length slots ≤ k → rec_at slots k ≡ None
+rec_at_past slots k past = ap rec_in (slice_get_past slots k past)
+
+pub sound_at : (v : RingView) (k : ℕ) (x : Option Held) (h : Held) → IsUp v → k < length v.slots → x ≡ get_or v.slots k x → x ≡ Some h → IsSomeRecord h.rec.codec h.rec.bytes
+sound_at v k x h is low read some = (is.sound k h (slice_get-get_or v.slots k x low ∙ ap Some (sym read ∙ some))).1
+
+-- the oldest record of a full ring
+pub is_oldest : (slots : List (Option Held)) (k : ℕ) → 0 < length slots → is_full slots ≡ true → k ≡ first_slot (entries_of Oldest slots) → IsOldest slots k
+is_oldest slots k some full is = of_entries (entries_of Oldest slots) refl (oldest_there slots some full) (entries-open Oldest 0 slots)
+  where
+    of_entries : (es : List Entry) → entries_of Oldest slots ≡ es → 0 < length es → Each (IsEntry 0 slots) es → IsOldest slots k
+    of_entries [] same some all = absurd (omega arith)
+    of_entries (e ∷ es) same some all =
+        let at : k ≡ all.0.index = is ∙ ap first_slot same ∙ all.0.place ∙ omega arith in
+        let here : k ≡ e.slot = is ∙ ap first_slot same in
+        let room : with_room slots ≡ without_first (entries_of Oldest slots) slots =
+          (let P : Bool → Type 0 = λ b. (if b then without_first (entries_of Oldest slots) slots else slots) ≡ without_first (entries_of Oldest slots) slots in subst P (sym full) refl) in
+        record {
+          held = e.held;
+          open_slot = ap (slice_get slots) at ∙ all.0.open_slot;
+          first = ap (map rec_of) same ∙ ap (λ (xs : List Entry). rec_of e ∷ drop 1 (map rec_of xs)) (sym same);
+          closes = room ∙ ap (λ (xs : List Entry). without_first xs slots) same ∙ ap (λ j. set slots j None) (sym here);
+        }
+
+pub oldest_low : (slots : List (Option Held)) (k : ℕ) → IsOldest slots k → k < length slots
+oldest_low slots k is = slice_get_within slots k (Some is.held) is.open_slot
+
+pub oldest_some : (slots : List (Option Held)) (k : ℕ) (x : Option Held) (is : IsOldest slots k) → x ≡ get_or slots k x → x ≡ Some is.held
+oldest_some slots k x is read = read ∙ get_or_from_slice_get slots k (Some is.held) x is.open_slot
+
+pub oldest_first : (slots : List (Option Held)) (k : ℕ) (x : Option Held) (h : Held) → IsOldest slots k → x ≡ get_or slots k x → x ≡ Some h → held_of slots ≡ h.rec ∷ drop 1 (held_of slots)
+oldest_first slots k x h is read some =
+    let same : is.held ≡ h = (let e : Some is.held ≡ Some h = sym (oldest_some slots k x is read) ∙ some in cc) in
+    is.first ∙ ap (λ (y : Held). y.rec ∷ drop 1 (held_of slots)) same
+
+pub oldest_opens : (slots : List (Option Held)) (k : ℕ) → IsOldest slots k → AreOpen (k ∷ []) slots
+oldest_opens slots k is j has = (is.held, ap (slice_get slots) (sym (only_here k j has)) ∙ is.open_slot)
+
+pub oldest_room : (slots : List (Option Held)) (k : ℕ) → IsOldest slots k → is_full (set slots k None) ≡ false
+oldest_room slots k is =
+    let low = oldest_low slots k is in
+    not_full (set slots k None) k (omega (arith, length-set slots k None)) (get_or-set_same slots k None None low)
+
+pub either_durable : (v : RingView) (after : List (Option Held)) → IsDurable v → EachHolds v (IsEither v.slots after)
+either_durable v after is = holds-map (length v.slots) v.medium.content (λ left. left ≡ v.slots) (IsEither v.slots after) (λ left same. unchanged same) is.same

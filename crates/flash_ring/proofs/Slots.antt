@@ -40,7 +40,7 @@ slot_bytes-same k a b size same =
     ext_get_or 0 (slot_bytes k a) (slot_bytes k b) (omega (arith, length-slot_bytes k a, length-slot_bytes k b))
       (λ p low. let within : p < 272 = omega (arith, length-slot_bytes k a) in slot_bytes-at k p a within ∙ same p within ∙ sym (slot_bytes-at k p b within))
 
-eqb-not : (a b : ℕ) → a ≢ b → eqb a b ≡ false
+pub eqb-not : (a b : ℕ) → a ≢ b → eqb a b ≡ false
 eqb-not a b apart = elim (eqb_tells a b) as (λ _. eqb a b ≡ false) [ inl same ↦ absurd (apart same.1) | inr other ↦ other.0 ]
 
 -- a closed gate

@@ -50,3 +50,12 @@ closed_all (k ∷ ks) slots = closed_all ks (set slots k None)
 -- this slot is open
 abbrev pub IsOpen : ℕ → List (Option Held) → Type 0
 IsOpen k slots = (h : Held) × (slice_get slots k ≡ Some (Some h))
+
+-- the record of a slot, where it is open
+abbrev pub rec_in : Option (Option Held) → Option Record
+rec_in None = None
+rec_in (Some None) = None
+rec_in (Some (Some h)) = Some h.rec
+
+abbrev pub rec_at : List (Option Held) → ℕ → Option Record
+rec_at slots k = rec_in (slice_get slots k)

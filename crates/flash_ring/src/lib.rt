@@ -7,6 +7,7 @@ mod format;
 mod held;
 mod load;
 mod order;
+mod rank;
 mod ring;
 mod store;
 

@@ -1,11 +1,12 @@
-ghost use Rattle.std.specs.Prelude.{◌≡◌, ◌≢◌, ◌⊎◌, ◌↔◌, ◌+◌, ◌*◌, ◌<◌, ◌≤◌, ◌^◌, true, false, ℕ, [], ◌∷◌, length, replicate, set, slice_get, Some, None, IfNone, IfSome, IfOk, IfErr, OnOk, OnErr, IsOk, IsErr, IsErrOf};
+ghost use Rattle.std.specs.Prelude.{◌≡◌, ◌≢◌, ◌⊎◌, ◌↔◌, ◌+◌, ◌*◌, ◌<◌, ◌≤◌, ◌^◌, true, false, ℕ, [], ◌∷◌, drop, length, replicate, set, slice_get, Some, None, IfNone, IfSome, IfOk, IfErr, OnOk, OnErr, IsOk, IsErr, IsErrOf};
 ghost use Rattle.avl_values.specs.Causes.{Rose};
 ghost use Rattle.avl_values.specs.Viewed.{record_of};
 ghost use Rattle.medium.specs.CallsLeft.{Fails, after, unlimited};
 ghost use Rattle.medium.specs.Content.{settled};
 ghost use Rattle.medium.specs.State.{Counted, EveryImage, IfTold, WasImage};
 ghost use Rattle.record_codecs.specs.SomeRecord.{IsSomeRecord};
-ghost use Rattle.flash_ring.specs.Held.{closed_all, first_closed, is_full, next_of, put_in};
+ghost use Rattle.flash_ring.specs.Entries.{IsOldest, held_of, selected, with_room};
+ghost use Rattle.flash_ring.specs.Held.{closed_all, first_closed, is_full, next_of, put_in, rec_at};
 ghost use Rattle.flash_ring.specs.Images.{AreDistinct, AreOpen, IsEither, MayClose, OthersStay, reached};
 ghost use Rattle.flash_ring.specs.Refusal.{Refuses, RefusesOpen};
 ghost use Rattle.flash_ring.specs.Ring.{CountedSome, EachHolds, EverySound, IsDurable, MayHold, put_calls, room_calls};
@@ -15,6 +16,9 @@ use crate::close::close_slots;
 use crate::held::Held;
 use crate::format::format;
 use crate::load::{OpenFault, ReopenFault, closed_slots, load_all, open_fault};
+use crate::Order;
+use crate::rank::{count_open, oldest_slot, select};
+use arrayvec::ArrayVec;
 use crate::store::store;
 use avl_values::{Failed, MediumFault, NoMemory, Rec};
 use medium::{Bench, Medium, ReserveError, Tear};
@@ -68,6 +72,21 @@ fn find_closed(slots: &[Option<Held>]) -> Option<u16>
         }
     }
     None
+}
+
+// The slot of the oldest record, where every slot is open.
+#[tactic(auto, using(crate::proofs::Rings::is_oldest))]
+fn oldest(slots: &[Option<Held>]) -> Option<u16>
+    requires some { 0 < length slots.now }
+    requires few { length slots.now ≤ 4096 }
+    ensures room { IfNone result (is_full slots.now ≡ false) }
+    ensures full { IfSome result (λ k. is_full slots.now ≡ true) }
+    ensures oldest { IfSome result (IsOldest slots.now) }
+{
+    if find_closed(slots).is_some() {
+        return None;
+    }
+    Some(oldest_slot(slots))
 }
 
 fn close_all(held: &mut Vec<Option<Held>>, slots: &[u16])
@@ -264,6 +283,83 @@ impl<M: Medium> Ring<M> {
         }
         close_all(&mut self.slots, slots);
         Ok(())
+    }
+
+    /// How many records are held.
+    #[tactic(auto, using(crate::proofs::Rings::durable_up))]
+    pub fn held(&self) -> u16
+        requires { self.now.down ≡ false }
+        ensures count { result ≡ length (held_of self.now.slots) }
+        ensures durable { self.now.down ≡ false → IsDurable self.now }
+    {
+        count_open(&self.slots)
+    }
+
+    /// The record with the least sequence, where every slot is open.
+    #[tactic(auto, using(crate::proofs::Rings::durable_up, crate::proofs::Rings::oldest_low, crate::proofs::Rings::oldest_some, crate::proofs::Rings::oldest_first))]
+    pub fn oldest_if_full(&self) -> Option<&Rec>
+        requires { self.now.down ≡ false }
+        ensures room { IfNone result (is_full self.now.slots ≡ false) }
+        ensures full { IfSome result (λ rec. is_full self.now.slots ≡ true) }
+        ensures oldest { IfSome result (λ rec. held_of self.now.slots ≡ record_of rec.now ∷ drop 1 (held_of self.now.slots)) }
+        ensures durable { self.now.down ≡ false → IsDurable self.now }
+    {
+        let slot = oldest(&self.slots)?;
+        match &self.slots[slot as usize] {
+            Some(held) => Some(&held.rec),
+            None => unreachable!(),
+        }
+    }
+
+    /// Closes the slot of the oldest record where every slot is open, by one write and one sync. It makes no call of the
+    /// medium otherwise.
+    pub fn make_room(&mut self) -> Result<(), MediumFault>
+        requires up { self.old.down ≡ false }
+
+        ensures room { OnOk result (self.new ≡ record self.old { medium = self.new.medium; slots = with_room self.old.slots }) }
+        ensures has_room { OnOk result (is_full self.new.slots ≡ false) }
+        ensures durable { OnOk result (IsDurable self.new) }
+
+        // At every exit, and so at each moment of the call, a power loss leaves the slots before or those after.
+        ensures images { EachHolds self.new (IsEither self.old.slots (with_room self.old.slots)) }
+
+        ensures failed { OnErr result (self.new ≡ record self.old { medium = self.new.medium; down = true }) }
+        ensures counted { Counted (room_calls self.old) self.old.medium self.new.medium (IsErr result) }
+    {
+        let _durable = self.is_down();
+        match oldest(&self.slots) {
+            None => Ok(()),
+            Some(slot) => self.release(&[slot]),
+        }
+    }
+
+    /// The slots of the next batch: the longest prefix of the open slots, in this order of sequence and equal sequences in
+    /// order of slot, that is of one codec and has at most 255 slots and `room` record bytes.
+    #[tactic(auto, using(crate::proofs::Rings::durable_up))]
+    pub fn select(&self, order: Order, room: u16) -> ArrayVec<u16, 255>
+        requires { self.now.down ≡ false }
+        ensures batch { result.items ≡ selected order room self.now.slots }
+        ensures durable { self.now.down ≡ false → IsDurable self.now }
+    {
+        select(&self.slots, order, room)
+    }
+
+    /// The record of an open slot, None for a closed one and behind the last.
+    #[tactic(auto, using(crate::proofs::Rings::durable_up, crate::proofs::Rings::rec_at_read, crate::proofs::Rings::rec_at_past, crate::proofs::Rings::sound_at))]
+    pub fn rec_at(&self, slot: u16) -> Option<&Rec>
+        requires { self.now.down ≡ false }
+        ensures open_slot { IfSome result (λ rec. rec_at self.now.slots slot ≡ Some (record_of rec.now)) }
+        ensures closed { IfNone result (rec_at self.now.slots slot ≡ None) }
+        ensures sound { IfSome result (λ rec. IsSomeRecord rec.now.codec rec.now.bytes.items) }
+        ensures durable { self.now.down ≡ false → IsDurable self.now }
+    {
+        if slot as usize >= self.slots.len() {
+            return None;
+        }
+        match &self.slots[slot as usize] {
+            Some(held) => Some(&held.rec),
+            None => None,
+        }
     }
 
     /// Arms the ring's bench.
