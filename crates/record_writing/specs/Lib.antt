@@ -1,0 +1,3 @@
+pub mod Length
+pub mod Pieces
+pub mod Refusal

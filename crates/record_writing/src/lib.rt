@@ -1,0 +1,8 @@
+//! Records and data bodies as bytes: a record is spelled in a codec or refused for the first of three causes, and a tracker's
+//! data body is made of records, one after the other.
+#![tactic(auto)]
+
+
+mod put;
+mod writing;
+
