@@ -1,3 +1,4 @@
 pub mod Groups
 pub mod Joins
 pub mod Pieces
+pub mod Bodies

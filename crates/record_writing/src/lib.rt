@@ -3,6 +3,12 @@
 #![tactic(auto)]
 
 
+mod body;
+mod codec;
+mod length;
 mod put;
 mod writing;
+
+pub use body::Body;
+pub use writing::{WriteFault, write_record};
 

@@ -1,35 +1,29 @@
 //! Records as bytes.
-ghost use Rattle.std.specs.Prelude.{◌≡◌, ◌<◌, ◌≤◌, ◌+◌, [], ◌++◌, length, All};
+ghost use Rattle.std.specs.Prelude.{◌≡◌, ◌<◌, ◌≤◌, ◌+◌, ◌↔◌, [], ◌++◌, length, All, IsOk, OnOk, OnErr};
 ghost use Rattle.arrayvec.specs.ArrayVec.{array_vec_len};
 ghost use Rattle.avl_values.specs.RecordValue.{value_of};
 ghost use Rattle.avl_values.specs.declared.width.Width.TheVariants.{W1};
 ghost use Rattle.record_layout.specs.Spelling.{HasNoOther, IsRecord};
 ghost use Rattle.record_writing.specs.Length.{record_length};
 ghost use Rattle.record_writing.specs.Pieces.{id_width, count_width, gps_bytes, GpsFits, head_bytes, HeadFits, generation_bytes, event_bytes, event_length, EventFits, groups_bytes, groups_length, GroupsFit, elements_bytes, elements_length, ElementsFit};
+ghost use Rattle.record_writing.specs.Checks.{Checks};
 ghost use Rattle.record_writing.specs.Refusal.{HasNarrowIds};
 
+use crate::codec::{count_width, has_narrow_ids, id_width, is_in_codec};
+use crate::length::has_room;
 use crate::put::{put, put_group, put_nx};
 use arrayvec::ArrayVec;
 use avl_values::{AvlRecord, Codec, Gps, Io, Width};
 
-/// The width of ids in this codec.
-fn id_width(codec: Codec) -> Width
-    ensures { result ≡ id_width codec }
-{
-    match codec {
-        Codec::C8 => Width::W1,
-        Codec::C8E | Codec::C16 => Width::W2,
-    }
-}
-
-/// The width of counts of elements in this codec.
-fn count_width(codec: Codec) -> Width
-    ensures { result ≡ count_width codec }
-{
-    match codec {
-        Codec::C8E => Width::W2,
-        Codec::C8 | Codec::C16 => Width::W1,
-    }
+/// Why a record isn't written.
+#[derive(Clone, Copy, Debug, PartialEq, Eq)]
+pub enum WriteFault {
+    /// The codec has no elements of any length, or no generation type, and the value does.
+    NotInCodec,
+    /// Codec 8 has ids of one byte, and the event's or an element's needs two.
+    IdTooWide,
+    /// The record has more than 255 bytes.
+    TooLong,
 }
 
 fn put_gps(out: &mut ArrayVec<u8, 255>, gps: &Gps)
@@ -120,4 +114,37 @@ fn put_record(out: &mut ArrayVec<u8, 255>, codec: Codec, value: &AvlRecord)
     put_head(out, value);
     put_event(out, codec, value);
     put_elements(out, codec, value);
+}
+
+/// The first cause for which a value isn't written.
+fn check(codec: Codec, value: &AvlRecord) -> Result<(), WriteFault>
+    ensures { Checks codec value.now result }
+{
+    if !is_in_codec(codec, value) {
+        return Err(WriteFault::NotInCodec);
+    }
+    if !has_narrow_ids(codec, value) {
+        return Err(WriteFault::IdTooWide);
+    }
+    if !has_room(codec, value) {
+        return Err(WriteFault::TooLong);
+    }
+    Ok(())
+}
+
+/// Writes the record of a value in a codec (Teltonika, Data Sending Protocols: Codec 8, Codec 8 Extended, Codec 16), in place of
+/// what was in `out`. The refusals are judged in the order of the enum, and leave `out` empty; that a record has at most 255
+/// bytes is this project's own limit. It takes no memory.
+pub fn write_record(codec: Codec, value: &AvlRecord, out: &mut ArrayVec<u8, 255>) -> Result<(), WriteFault>
+    ensures not_in_codec { (result ≡ Err WriteFault.NotInCodec) ↔ ¬ HasNoOther codec (value_of value.now) }
+    ensures id_too_wide { (result ≡ Err WriteFault.IdTooWide) ↔ (HasNoOther codec (value_of value.now) × ¬ HasNarrowIds codec value.now) }
+    ensures too_long { (result ≡ Err WriteFault.TooLong) ↔ (HasNoOther codec (value_of value.now) × HasNarrowIds codec value.now × (255 < record_length codec (value_of value.now))) }
+    ensures written { IsOk result ↔ (HasNoOther codec (value_of value.now) × HasNarrowIds codec value.now × (record_length codec (value_of value.now) ≤ 255)) }
+    ensures record { OnOk result (IsRecord codec (value_of value.now) out.new.items) }
+    ensures empty { OnErr result (out.new.items ≡ []) }
+{
+    out.clear();
+    check(codec, value)?;
+    put_record(out, codec, value);
+    Ok(())
 }
