@@ -2,7 +2,6 @@
 //! data body is made of records, one after the other.
 #![tactic(auto)]
 
-
 mod body;
 mod codec;
 mod length;
@@ -12,3 +11,5 @@ mod writing;
 pub use body::Body;
 pub use writing::{WriteFault, write_record};
 
+#[cfg(test)]
+mod tests;

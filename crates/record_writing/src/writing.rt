@@ -135,7 +135,11 @@ fn check(codec: Codec, value: &AvlRecord) -> Result<(), WriteFault>
 /// Writes the record of a value in a codec (Teltonika, Data Sending Protocols: Codec 8, Codec 8 Extended, Codec 16), in place of
 /// what was in `out`. The refusals are judged in the order of the enum, and leave `out` empty; that a record has at most 255
 /// bytes is this project's own limit. It takes no memory.
-pub fn write_record(codec: Codec, value: &AvlRecord, out: &mut ArrayVec<u8, 255>) -> Result<(), WriteFault>
+pub fn write_record(
+    codec: Codec,
+    value: &AvlRecord,
+    out: &mut ArrayVec<u8, 255>,
+) -> Result<(), WriteFault>
     ensures not_in_codec { (result ≡ Err WriteFault.NotInCodec) ↔ ¬ HasNoOther codec (value_of value.now) }
     ensures id_too_wide { (result ≡ Err WriteFault.IdTooWide) ↔ (HasNoOther codec (value_of value.now) × ¬ HasNarrowIds codec value.now) }
     ensures too_long { (result ≡ Err WriteFault.TooLong) ↔ (HasNoOther codec (value_of value.now) × HasNarrowIds codec value.now × (255 < record_length codec (value_of value.now))) }

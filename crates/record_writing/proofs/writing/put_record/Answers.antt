@@ -9,6 +9,6 @@ returns c =
     let r = c.args.value.now in
     let codec = c.args.codec in
     let written = written3 c.args.out.now.items c.put_head.new.out.items c.put_event.new.out.items c.put_elements.new.out.items (head_bytes r) (event_bytes codec r) (elements_bytes codec r)
-      c.put_head.ensures.bytes c.put_event.ensures.bytes c.put_elements.ensures.bytes in
+    c.put_head.ensures.bytes c.put_event.ensures.bytes c.put_elements.ensures.bytes in
     pieces_are_record codec r c.put_elements.new.out.items (written ∙ ap (λ o. o ++ (head_bytes r ++ (event_bytes codec r ++ elements_bytes codec r))) c.requires.empty)
-      c.put_head.ensures.fit c.put_event.ensures.fit c.put_elements.ensures.fit c.requires.in_codec
+    c.put_head.ensures.fit c.put_event.ensures.fit c.put_elements.ensures.fit c.requires.in_codec
