@@ -32,3 +32,6 @@ pub use rec_list::RecList;
 pub use wide_list::WideList;
 pub use wide_rec::WideRec;
 pub use width::Width;
+
+#[cfg(test)]
+mod tests;

@@ -29,3 +29,13 @@ impl Rec {
         Rec::new(self.codec, self.bytes.as_slice())
     }
 }
+
+impl Default for Rec {
+    /// No bytes in Codec 8: what an array has where no record stands yet.
+    fn default() -> Rec {
+        Rec {
+            codec: Codec::C8,
+            bytes: ArrayVec::new(),
+        }
+    }
+}

@@ -1,0 +1,3 @@
+pub mod Firing
+pub mod Generation
+pub mod Watching

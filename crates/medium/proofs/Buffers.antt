@@ -1,0 +1,171 @@
+-- A loop that sets a range of a buffer, and what it leaves.
+use Rattle.std.proofs.Common.{◌≡◌, ◌⊎◌, inl, inr, ℕ, ◌+◌, ◌-◌, ◌<◌, ◌≤◌, max, Bool, true, false, List, length, get_or, set, take, replicate, sym, ◌∙◌, ap, refl, subst, arith, length-take, length-set, get_or-set_same, get_or-set_other}
+use Rattle.std.proofs.lemmas.List.{length-replicate, ext_get_or, get_or-take, get_or-replicate, get_or_past}
+use Rattle.std.proofs.lemmas.Bool.{cases_lt, cases_eq}
+use Rattle.medium.specs.Content.{written}
+use Rattle.medium.specs.Buffer.{Buffer, DirtyMarks, IsPadded, IsMarked}
+use Rattle.medium.proofs.Written.{length-written, get_or-written_before, get_or-written_there, get_or-written_behind}
+
+-- n elements from a place on have been set to what f gives, and nothing else has changed
+pub record SetFrom {A : Type 0} (d : A) (at n : ℕ) (f : ℕ → A) (before after : List A) : Type 0 where
+  pub size : length after ≡ length before
+  pub there : (k : ℕ) → k < n → get_or after (at + k) d ≡ f k
+  pub elsewhere : (k : ℕ) → (k < at) ⊎ (at + n ≤ k) → get_or after k d ≡ get_or before k d
+
+pub set-none : {A : Type 0} → (d : A) (at : ℕ) (f : ℕ → A) (xs : List A) → SetFrom d at 0 f xs xs
+set-none d at f xs = record { size = refl; there = λ k below. absurd (omega arith); elsewhere = λ k _. refl }
+
+pub set-more : {A : Type 0} → {d : A} {at n : ℕ} {f : ℕ → A} {before after : List A}
+    → SetFrom d at n f before after → (i : ℕ) → i ≡ at + n → i < length after → (y : A) → y ≡ f n → SetFrom d at (n + 1) f before (set after i y)
+set-more {d = d} {at = at} {n = n} {f = f} {before = before} {after = after} so i is fits y value = record {
+  size = length-set after i y ∙ so.size;
+  there = λ k below. elim (cases_eq k n) as (λ _. get_or (set after i y) (at + k) d ≡ f k) [
+    | inl same ↦
+        let here : at + k ≡ i = omega arith in
+        ap (λ j. get_or (set after i y) j d) here ∙ get_or-set_same after i y d fits ∙ value ∙ ap f (sym same)
+    | inr other ↦ get_or-set_other after i (at + k) y d (λ eq. other (omega arith)) ∙ so.there k (omega arith)
+  ];
+  elsewhere = λ k out. elim out as (λ _. get_or (set after i y) k d ≡ get_or before k d) [
+    | inl low ↦ get_or-set_other after i k y d (λ eq. omega arith) ∙ so.elsewhere k (inl low)
+    | inr high ↦ get_or-set_other after i k y d (λ eq. omega arith) ∙ so.elsewhere k (inr (omega arith))
+  ];
+}
+
+-- the place of an element, before, in or behind a range
+pub data Place (at n k : ℕ) : Type 0 where
+  ahead : k < at → Place at n k
+  inside : (j : ℕ) → j < n → at + j ≡ k → Place at n k
+  past : at + n ≤ k → Place at n k
+
+pub place_of : (at n k : ℕ) → Place at n k
+place_of at n k = elim (cases_lt k at) as (λ _. Place at n k) [
+  | inl low ↦ ahead low
+  | inr from ↦ elim (cases_lt k (at + n)) as (λ _. Place at n k) [
+    | inl in_range ↦ inside (k - at) (omega arith) (omega arith)
+    | inr high ↦ past high
+  ]
+]
+
+-- what a front gives at a place
+front : {A : Type 0} → (d : A) (n : ℕ) (xs : List A) (k : ℕ) → IsPadded d n xs → get_or (take n xs) k d ≡ get_or xs k d
+front d n xs k padded = elim (cases_lt k n) as (λ _. get_or (take n xs) k d ≡ get_or xs k d) [
+  | inl low ↦ get_or-take n xs k d low
+  | inr high ↦ get_or_past (take n xs) k d (omega (arith, length-take n xs)) ∙ sym (padded.behind k high)
+]
+
+module _ {A : Type 0} (d : A) (at : ℕ) (ys : List A) (len : ℕ) (before after : List A)
+    (padded : IsPadded d len before)
+    (fits : at + length ys ≤ length before)
+    (so : SetFrom d at (length ys) (λ k. get_or ys k d) before after) where
+  pub padded-put : (end : ℕ) → end ≡ max len (at + length ys) → IsPadded d end after
+  padded-put end is = record {
+    within = let size = so.size in omega (arith, padded.within);
+    behind = λ k above. so.elsewhere k (inr (omega arith)) ∙ padded.behind k (omega arith);
+  }
+
+  pub take-put : (end : ℕ) → end ≡ max len (at + length ys) → take end after ≡ written d at ys (take len before)
+  take-put end is =
+      let size = so.size in
+      let l : length (take end after) ≡ max len (at + length ys) = omega (arith, length-take end after, padded.within) in
+      let r : length (written d at ys (take len before)) ≡ max len (at + length ys) = omega (arith, length-written d at ys (take len before), length-take len before, padded.within) in
+      ext_get_or d (take end after) (written d at ys (take len before)) (l ∙ sym r) (λ k _.
+      front d end after k (padded-put end is) ∙ elim (place_of at (length ys) k) as (λ _. get_or after k d ≡ get_or (written d at ys (take len before)) k d) [
+        | ahead low ↦ so.elsewhere k (inl low) ∙ sym (front d len before k padded) ∙ sym (get_or-written_before d at ys (take len before) k low)
+        | inside j low eq ↦
+            ap (λ i. get_or after i d) (sym eq) ∙ so.there j low ∙ sym (get_or-written_there d at ys (take len before) j low)
+            ∙ ap (λ i. get_or (written d at ys (take len before)) i d) eq
+        | past high ↦ so.elsewhere k (inr high) ∙ sym (front d len before k padded) ∙ sym (get_or-written_behind d at ys (take len before) k high)
+      ])
+
+-- a fill sets what the list of equal elements gives
+pub set-replicate : {A : Type 0} → {d : A} {at : ℕ} (n : ℕ) (y : A) {before after : List A}
+    → SetFrom d at n (λ _. y) before after → SetFrom d at (length (replicate n y)) (λ k. get_or (replicate n y) k d) before after
+set-replicate {d = d} {at = at} n y {before = before} {after = after} so = record {
+  size = so.size;
+  there = λ k below. let low : k < n = omega (arith, length-replicate n y) in so.there k low ∙ sym (get_or-replicate n k y d low);
+  elsewhere = λ k out. so.elsewhere k (rw length-replicate at out);
+}
+
+-- A buffer that took the other's elements over a span, and differed nowhere else, is the other's.
+module _ {A : Type 0} (d : A) (first end : ℕ) (len other_len : ℕ) (mine other after : List A)
+    (padded : IsPadded d len mine) (other_padded : IsPadded d other_len other) (fits : other_len ≤ length mine)
+    (outside : (k : ℕ) → (k < first) ⊎ (end ≤ k) → get_or (take len mine) k d ≡ get_or (take other_len other) k d)
+    (so : SetFrom d first (end - first) (λ k. get_or other (first + k) d) mine after) where
+  copied : (k : ℕ) → get_or after k d ≡ get_or other k d
+  copied k = elim (place_of first (end - first) k) as (λ _. get_or after k d ≡ get_or other k d) [
+    | ahead low ↦ so.elsewhere k (inl low) ∙ sym (front d len mine k padded) ∙ outside k (inl low) ∙ front d other_len other k other_padded
+    | inside j low eq ↦ ap (λ i. get_or after i d) (sym eq) ∙ so.there j low ∙ ap (λ i. get_or other i d) eq
+    | past high ↦ so.elsewhere k (inr high) ∙ sym (front d len mine k padded) ∙ outside k (elim (cases_lt k first) as (λ _. (k < first) ⊎ (end ≤ k)) [
+      | inl low ↦ inl low
+      | inr from ↦ inr (omega arith)
+    ]) ∙ front d other_len other k other_padded
+  ]
+
+  pub padded-copied : IsPadded d other_len after
+  padded-copied = record { within = let size = so.size in omega arith; behind = λ k above. copied k ∙ other_padded.behind k above }
+
+  pub take-copied : take other_len after ≡ take other_len other
+  take-copied =
+      let size = so.size in
+      ext_get_or d (take other_len after) (take other_len other)
+      (omega (arith, length-take other_len after, length-take other_len other, other_padded.within))
+      (λ k _. front d other_len after k padded-copied ∙ copied k ∙ sym (front d other_len other k other_padded))
+
+-- what contracts see of the marks
+pub seen-marked : (at n : ℕ) (first end new_first new_end : ℕ) (earlier after : List Bool) (was : DirtyMarks)
+    → IsMarked first end earlier → at + n ≤ was.room → SetFrom false at n (λ _. true) earlier after
+    → new_end ≡ max end (at + n) → record { marks = take end earlier; room = length earlier } ≡ was
+    → record { marks = take new_end after; room = length after } ≡ record was { marks = written false at (replicate n true) was.marks }
+seen-marked at n first end new_first new_end earlier after was marked fits so is view =
+    let was_marks = ap (λ (v : DirtyMarks). v.marks) view in
+    let was_room = ap (λ (v : DirtyMarks). v.room) view in
+    let count : length (replicate n true) ≡ n = length-replicate n true in
+    let marks = take-put false at (replicate n true) end earlier after marked.padded (omega arith) (set-replicate n true so) new_end (omega arith) in
+    let size = so.size in
+    cc
+
+-- no mark is left where the span was cleared
+pub marks-cleared : (first end none : ℕ) (earlier after : List Bool)
+    → IsMarked first end earlier → SetFrom false first (end - first) (λ _. false) earlier after → IsMarked none 0 after
+marks-cleared first end none earlier after marked so =
+    let all = λ (k : ℕ). elim (place_of first (end - first) k) as (λ _. get_or after k false ≡ false) [
+      | ahead low ↦ so.elsewhere k (inl low) ∙ marked.clean k low
+      | inside j low eq ↦ ap (λ i. get_or after i false) (sym eq) ∙ so.there j low
+      | past high ↦ so.elsewhere k (inr high) ∙ elim (cases_lt k first) as (λ _. get_or earlier k false ≡ false) [
+        | inl low ↦ marked.clean k low
+        | inr from ↦ marked.padded.behind k (omega arith)
+      ]
+    ] in
+    record { padded = record { within = omega arith; behind = λ k _. all k }; clean = λ k _. all k }
+
+-- what contracts see of a buffer
+abbrev seen : ℕ → List ℕ → Buffer
+seen len items = record { bytes = take len items; room = length items }
+
+pub seen-put : (at n : ℕ) (ys : List ℕ) (len end : ℕ) (before after : List ℕ) (was : Buffer)
+    → IsPadded 0 len before → at + length ys ≤ was.room → n ≡ length ys → SetFrom 0 at n (λ k. get_or ys k 0) before after
+    → end ≡ max len (at + length ys) → seen len before ≡ was
+    → seen end after ≡ record was { bytes = written 0 at ys was.bytes }
+seen-put at n ys len end before after was padded fits all so is view =
+    let so_all = let P : ℕ → Type 0 = λ m. SetFrom 0 at m (λ k. get_or ys k 0) before after in subst P all so in
+    let was_bytes = ap (λ (v : Buffer). v.bytes) view in
+    let was_room = ap (λ (v : Buffer). v.room) view in
+    let bytes = take-put 0 at ys len before after padded (omega arith) so_all end is in
+    let size = so.size in
+    cc
+
+pub seen-copied : (first end len other_len : ℕ) (mine other after : List ℕ) (was it : Buffer)
+    → IsPadded 0 len mine → IsPadded 0 other_len other → seen len mine ≡ was → seen other_len other ≡ it
+    → length it.bytes ≤ was.room
+    → ((k : ℕ) → (k < first) ⊎ (end ≤ k) → get_or was.bytes k 0 ≡ get_or it.bytes k 0)
+    → SetFrom 0 first (end - first) (λ k. get_or other (first + k) 0) mine after
+    → IsPadded 0 other_len after × (seen other_len after ≡ record was { bytes = it.bytes })
+seen-copied first end len other_len mine other after was it padded other_padded view other_view fits outside so =
+    let was_bytes = ap (λ (v : Buffer). v.bytes) view in
+    let was_room = ap (λ (v : Buffer). v.room) view in
+    let it_bytes = ap (λ (v : Buffer). v.bytes) other_view in
+    let other_fits : other_len ≤ length mine = omega (arith, ap length it_bytes, length-take other_len other, other_padded.within) in
+    let apart = λ (k : ℕ) (out : (k < first) ⊎ (end ≤ k)). ap (λ (b : List ℕ). get_or b k 0) was_bytes ∙ outside k out ∙ sym (ap (λ (b : List ℕ). get_or b k 0) it_bytes) in
+    let bytes = take-copied 0 first end len other_len mine other after padded other_padded other_fits apart so in
+    let size = so.size in
+    (padded-copied 0 first end len other_len mine other after padded other_padded other_fits apart so, cc)

@@ -1,0 +1,4 @@
+pub mod Buffers
+pub mod Images
+pub mod Torn
+pub mod Written

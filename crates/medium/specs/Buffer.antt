@@ -1,0 +1,48 @@
+-- How the media in memory keep their bytes: buffers that are long enough for each write that is allowed, and the filler
+-- behind the end.
+use Rattle.std.specs.Prelude.{◌≡◌, ℕ, ◌<◌, ◌≤◌, ◌^◌, max, Bool, false, List, length, get_or}
+use Rattle.medium.specs.Content.{Content}
+
+-- bytes from place 0 on, and the place up to which there is room
+pub record Buffer : Type 0 where
+  pub bytes : List ℕ
+  pub room : ℕ
+
+-- a mark for each dirty byte, and the place up to which there is room
+pub record DirtyMarks : Type 0 where
+  pub marks : List Bool
+  pub room : ℕ
+
+-- a content, and the place up to which it is ready for writes
+pub record Held : Type 0 where
+  pub content : Content
+  pub ready : ℕ
+
+-- behind its end the list has the filler alone
+pub record IsPadded {A : Type 0} (filler : A) (len : ℕ) (items : List A) : Type 0 where
+  pub within : len ≤ length items
+  pub behind : (k : ℕ) → len ≤ k → get_or items k filler ≡ filler
+
+-- an image that has what is durable wherever nothing was written since
+pub record IsTornImage (c : Content) (image : List ℕ) : Type 0 where
+  pub no_shorter : length c.durable ≤ length image
+  pub no_longer : length image ≤ max (length c.durable) (length c.dirty)
+  pub clean : (k : ℕ) → get_or c.dirty k false ≡ false → get_or image k 0 ≡ get_or c.durable k 0
+
+-- no mark stands before the first place, or behind the end
+pub record IsMarked (first end : ℕ) (marks : List Bool) : Type 0 where
+  pub padded : IsPadded false end marks
+  pub clean : (k : ℕ) → k < first → get_or marks k false ≡ false
+
+abbrev pub content_of : Buffer → Buffer → DirtyMarks → Content
+content_of reads durable dirty = record { reads = reads.bytes; durable = durable.bytes; dirty = dirty.marks }
+
+-- the parts of a content in memory fit together
+pub record FitTogether (reads durable : Buffer) (dirty : DirtyMarks) (ready : ℕ) : Type 0 where
+  pub most : ready ≤ 2 ^ 62
+  pub reads_room : ready ≤ reads.room
+  pub durable_room : ready ≤ durable.room
+  pub dirty_room : ready ≤ dirty.room
+  pub durable_fits : length durable.bytes ≤ ready
+  pub dirty_fits : length dirty.marks ≤ ready
+  pub reads_image : IsTornImage (content_of reads durable dirty) reads.bytes

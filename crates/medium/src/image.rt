@@ -1,0 +1,122 @@
+ghost use Rattle.std.specs.Prelude.{◌≡◌, ◌⊎◌, ◌+◌, ◌-◌, ◌<◌, ◌≤◌, min, ℕ, [], length, get_or, replicate, take, drop, OnOk};
+ghost use Rattle.medium.specs.Content.{written};
+
+use avl_values::NoMemory;
+use std::alloc::Global;
+use std::marker::Model;
+
+/// The bytes of an image in memory, with room behind its end.
+#[derive(Drop)]
+pub struct Image {
+    bytes: Vec<u8>,
+    len: usize,
+}
+
+impl Model for Image {
+    ghost use Rattle.std.specs.Prelude.{take, length};
+    ghost use Rattle.medium.specs.Buffer.{Buffer, IsPadded};
+
+    ghost Value = { Buffer };
+
+    ghost view = { λ i. record { bytes = take i.len i.bytes.items; room = length i.bytes.items } };
+
+    ghost invariant = { λ i. IsPadded 0 i.len i.bytes.items };
+}
+
+impl Image {
+    /// No bytes, and no room. It takes no memory.
+    pub fn new(alloc: Global) -> Image
+        ensures { result ≡ record { bytes = []; room = 0 } }
+    {
+        Image {
+            bytes: Vec::new(alloc),
+            len: 0,
+        }
+    }
+
+    /// These bytes, and no room behind them.
+    pub fn from_vec(bytes: Vec<u8>) -> Image
+        ensures { result ≡ record { bytes = bytes.items; room = length bytes.items } }
+    {
+        let len = bytes.len();
+        Image { bytes, len }
+    }
+
+    /// Gets room up to a place.
+    pub fn grow(&mut self, to: usize) -> Result<(), NoMemory>
+        ensures bytes { self.new.bytes ≡ self.old.bytes }
+        ensures room { self.old.room ≤ self.new.room }
+        ensures enough { OnOk result (to ≤ self.new.room) }
+    {
+        if to > self.bytes.len() {
+            self.bytes.reserve_exact(to - self.bytes.len())?;
+            self.bytes.resize(to, 0)?;
+        }
+        Ok(())
+    }
+
+    pub fn len(&self) -> usize
+        ensures { result ≡ length self.now.bytes }
+    {
+        self.len
+    }
+
+    pub fn as_slice(&self) -> &[u8]
+        ensures { result.now ≡ self.now.bytes }
+    {
+        &self.bytes[..self.len]
+    }
+
+    /// Copies the bytes at a place, as many as there are and fit.
+    pub fn read(&self, at: u64, into: &mut [u8]) -> usize
+        ensures bound { result ≤ length into.new }
+        ensures count { result ≡ min (length into.old) (length self.now.bytes - at) }
+        ensures bytes { take result into.new ≡ take result (drop at self.now.bytes) }
+    {
+        if at >= self.len as u64 {
+            return 0;
+        }
+        let at = at as usize;
+        let count = into.len().min(self.len - at);
+        for i in 0..count {
+            into[i] = self.bytes[at + i];
+        }
+        count
+    }
+
+    /// Writes bytes at a place, the gap behind the end filled with zero bytes.
+    pub fn put(&mut self, at: usize, from: &[u8])
+        requires { at + length from.now ≤ self.old.room }
+        ensures { self.new ≡ record self.old { bytes = written 0 at from.now self.old.bytes } }
+    {
+        for i in 0..from.len() {
+            self.bytes[at + i] = from[i];
+        }
+        self.len = self.len.max(at + from.len());
+    }
+
+    /// Writes one byte `count` times at a place.
+    pub fn fill(&mut self, at: usize, count: usize, byte: u8)
+        requires { at + count ≤ self.old.room }
+        ensures { self.new ≡ record self.old { bytes = written 0 at (replicate count byte) self.old.bytes } }
+    {
+        for i in 0..count {
+            self.bytes[at + i] = byte;
+        }
+        self.len = self.len.max(at + count);
+    }
+
+    /// Becomes the other, from which it differs only in this span.
+    pub fn copy_span(&mut self, other: &Image, first: usize, end: usize)
+        requires room { length other.now.bytes ≤ self.old.room }
+        requires span { end ≤ self.old.room }
+        requires other_span { end ≤ other.now.room }
+        requires outside { (k : ℕ) → (k < first) ⊎ (end ≤ k) → get_or self.old.bytes k 0 ≡ get_or other.now.bytes k 0 }
+        ensures { self.new ≡ record self.old { bytes = other.now.bytes } }
+    {
+        for k in first..end {
+            self.bytes[k] = other.bytes[k];
+        }
+        self.len = other.len;
+    }
+}

@@ -1,0 +1,23 @@
+//! Media that keep bytes over a power loss: what contracts see of one, what a power loss may leave of it, a medium and a
+//! bench in memory, and an adapter over a file.
+#![tactic(auto)]
+
+mod bench;
+mod dirty_map;
+mod file_medium;
+mod image;
+mod medium;
+mod memory_bench;
+mod memory_content;
+mod memory_medium;
+mod power;
+mod torn_images;
+
+pub use bench::{Bench, Tear};
+pub use file_medium::FileMedium;
+pub use medium::{Medium, ReserveError};
+pub use memory_bench::MemoryBench;
+pub use memory_medium::MemoryMedium;
+
+#[cfg(test)]
+mod tests;

@@ -1,0 +1,10 @@
+/// How a bench's power goes on.
+#[derive(Clone, Copy, Debug, PartialEq, Eq)]
+pub enum Power {
+    /// No call will fail.
+    Unarmed,
+    /// So many calls pass, and the one after them is the power loss.
+    Armed(u64),
+    /// Each call fails until the restart.
+    Lost,
+}
