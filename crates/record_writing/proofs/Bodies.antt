@@ -1,11 +1,11 @@
 -- A body's records, while they are added.
-use Rattle.std.proofs.Common.{◌≡◌, ℕ, zero, suc, ◌+◌, ◌<◌, List, [], ◌∷◌, ◌++◌, length, take, drop, refl, sym, ap, subst, ◌∙◌, arith, append_assoc, length-append}
+use Rattle.std.proofs.Common.{◌≡◌, ℕ, zero, suc, ◌+◌, ◌<◌, List, [], ◌∷◌, ◌++◌, length, drop, refl, sym, ap, subst, ◌∙◌, arith, length-append}
 use Rattle.std.specs.List.{flat_map, AllByRecursion}
 use Rattle.std.proofs.lemmas.Grind.{flat_map-append}
 use Rattle.std.proofs.lemmas.List.{append-nil}
 use Rattle.avl_values.specs.Codec.{id_of}
 use Rattle.avl_values.specs.declared.codec.Codec.{Codec}
-use Rattle.record_layout.specs.Packet.{packet_bytes, IsPacket}
+use Rattle.record_layout.specs.Packet.{packet_bytes}
 use Rattle.record_layout.specs.RecordsOf.{records_in, first_record, or_none}
 use Rattle.record_layout.specs.SomeRecord.{IsSomeRecord}
 use Rattle.record_layout.proofs.ReadLaws.{records_in_front}

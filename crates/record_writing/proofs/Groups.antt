@@ -1,5 +1,5 @@
 -- Groups of elements, while they are written one after the other.
-use Rattle.std.proofs.Common.{◌≡◌, ℕ, ◌+◌, ◌*◌, ◌<◌, ◌≤◌, List, [], ◌∷◌, ◌++◌, length, sym, ap, ◌∙◌, arith, append_assoc, length-append}
+use Rattle.std.proofs.Common.{◌≡◌, ℕ, ◌+◌, ◌*◌, ◌<◌, ◌≤◌, List, [], ◌∷◌, ◌++◌, length, ◌∙◌, arith, append_assoc, length-append}
 use Rattle.std.specs.List.{flat_map, AllByRecursion}
 use Rattle.std.proofs.lemmas.List.Sums.{sum_by-cons}
 use Rattle.avl_values.specs.IoElement.{IoElement}
@@ -9,7 +9,6 @@ use Rattle.avl_values.specs.declared.width.Width.{Width}
 use Rattle.avl_values.specs.declared.width.Width.TheVariants.{W2}
 use Rattle.layout.specs.Bytes.{AreBytes}
 use Rattle.record_layout.specs.Spelling.{spell, pair_bytes, triple_bytes}
-use Rattle.record_layout.proofs.Table.{length-spell}
 use Rattle.record_writing.specs.Length.{pairs_length, triples_length}
 
 abbrev pub PairFits : Width → Width → ℕ × ℕ → Type 0

@@ -1,5 +1,5 @@
 -- The pieces of a record are its spelling.
-use Rattle.std.proofs.Common.{◌≡◌, ℕ, ◌+◌, ◌*◌, ◌^◌, ◌<◌, ◌≤◌, List, [], ◌∷◌, ◌++◌, length, refl, sym, zero, suc, Bool, if◌then◌else◌, ap, subst, ◌∙◌, arith, append_assoc, FitsSigned, ℤ, All}
+use Rattle.std.proofs.Common.{◌≡◌, ℕ, ◌+◌, ◌^◌, ◌<◌, ◌≤◌, List, [], ◌∷◌, ◌++◌, length, refl, sym, suc, if◌then◌else◌, ap, ◌∙◌, arith, append_assoc, FitsSigned, ℤ, All}
 use Rattle.std.specs.Int.{w16, w32, cast_unsigned}
 use Rattle.std.proofs.lemmas.Int.{ints}
 use Rattle.std.proofs.lemmas.List.{append-nil}
@@ -18,7 +18,7 @@ use Rattle.record_writing.proofs.Groups.{triples_count}
 use Rattle.avl_values.specs.NxElements.{nx_size}
 use Rattle.std.proofs.lemmas.List.Sums.{sum_by-cons}
 use Rattle.record_writing.specs.Length.{record_length, pairs_length, ios_length, shortest_length}
-use Rattle.record_writing.specs.Pieces.{head_bytes, HeadFits, event_bytes, event_length, EventFits, groups_bytes, group_bytes, elements_bytes, elements_length, ElementsFit, id_width, count_width, nx_bytes}
+use Rattle.record_writing.specs.Pieces.{head_bytes, HeadFits, event_bytes, event_length, EventFits, group_bytes, elements_bytes, elements_length, ElementsFit, id_width, count_width, nx_bytes}
 
 -- each element has one of the four widths
 one_more : (w : Width) (a b c d : List (ℕ × ℕ)) (e : ℕ × ℕ)

@@ -1,5 +1,5 @@
 -- The first of three causes for which a value isn't written, or none (this project's own).
-use Rattle.std.specs.Prelude.{ℕ, ◌<◌, ◌≤◌, Result, Ok, Err}
+use Rattle.std.specs.Prelude.{◌<◌, ◌≤◌, Result, Ok, Err}
 use Rattle.avl_values.specs.RecordValue.{value_of}
 use Rattle.avl_values.specs.declared.avl_record.AvlRecord.{AvlRecord}
 use Rattle.avl_values.specs.declared.codec.Codec.{Codec}

@@ -1,5 +1,5 @@
 -- Which records a codec doesn't have (this project's own).
-use Rattle.std.specs.Prelude.{ℕ, ◌<◌, All}
+use Rattle.std.specs.Prelude.{◌<◌, All}
 use Rattle.avl_values.specs.declared.avl_record.AvlRecord.{AvlRecord}
 use Rattle.avl_values.specs.declared.codec.Codec.{Codec}
 use Rattle.avl_values.specs.declared.codec.Codec.TheVariants.{C8, C8E, C16}

@@ -80,16 +80,12 @@ fn example_of_codec_8(rt: HostRuntime) -> Result<(), Fail> {
 #[test]
 fn a_body_holds_42_short_records(rt: HostRuntime) -> Result<(), Fail> {
     let mut out = ArrayVec::new();
-    assert_eq!(rt; write_record(Codec::C8, &plain(0, 0, 0), &mut out), Ok(()));
+    write_record(Codec::C8, &plain(0, 0, 0), &mut out)?;
     assert_eq!(rt; out.len(), 30);
     let mut body = Body::begin(Codec::C8);
-    let mut added = 0;
     for _ in 0..42 {
-        if body.push(out.as_slice()) {
-            added += 1;
-        }
+        assert!(rt; body.push(out.as_slice()));
     }
-    assert_eq!(rt; added, 42);
     assert!(rt; !body.push(out.as_slice()));
     Ok(())
 }

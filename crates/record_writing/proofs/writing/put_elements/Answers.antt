@@ -1,4 +1,4 @@
-use Rattle.std.proofs.Common.{◌≡◌, ◌+◌, ◌<◌, ◌^◌, length, sym, ap, subst, arith, All}
+use Rattle.std.proofs.Common.{◌+◌, ◌<◌, ◌^◌, length, sym, ap, subst, arith, All}
 use Rattle.record_writing.proofs.Pieces.{few_elements, fits_count, narrow_ids}
 use Rattle.record_writing.proofs.writing.put_elements.Goals as goal
 

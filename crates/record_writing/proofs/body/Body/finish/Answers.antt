@@ -1,4 +1,4 @@
-use Rattle.std.proofs.Common.{◌≡◌, ◌+◌, ◌<◌, [], ◌∷◌, ◌++◌, length, sym, ap, subst, ◌∙◌, arith, rules, append_assoc}
+use Rattle.std.proofs.Common.{◌≡◌, [], ◌∷◌, ◌++◌, length, ap, subst, ◌∙◌, arith, append_assoc}
 use Rattle.avl_values.specs.Codec.{id_of}
 use Rattle.record_layout.specs.Packet.{IsPacket}
 use Rattle.record_layout.specs.RecordsOf.{records_in}

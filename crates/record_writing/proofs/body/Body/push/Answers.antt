@@ -1,5 +1,4 @@
-use Rattle.std.proofs.Common.{◌≡◌, ◌+◌, ◌++◌, length, sym, ap, subst, ◌∙◌, arith, rules}
-use Rattle.record_layout.specs.RecordsOf.{records_in}
+use Rattle.std.proofs.Common.{◌≡◌, ◌+◌, ◌++◌, length, sym, ap, subst, arith, rules}
 use Rattle.record_layout.specs.SomeRecord.{IsSomeRecord}
 use Rattle.record_writing.specs.Packed.{ArePacked}
 use Rattle.record_writing.specs.Packing.{Packing}
