@@ -7,7 +7,7 @@ ghost use Rattle.record_writing.specs.Refusal.{HasNarrowIds};
 
 use avl_values::{AvlRecord, Codec, Io, Width};
 
-/// The width of ids in this codec.
+/// The width of I/O elements' ids in this codec: 1 byte in Codec 8, 2 in the others.
 pub fn id_width(codec: Codec) -> Width
     ensures { result ≡ id_width codec }
 {

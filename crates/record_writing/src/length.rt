@@ -8,8 +8,8 @@ ghost use Rattle.record_writing.specs.Length.{ios_length, record_length, shortes
 use crate::codec::id_width;
 use avl_values::{AvlRecord, Codec, Io, NxList, Width};
 
-/// The bytes of a record without elements.
-fn shortest_length(codec: Codec) -> usize
+/// The bytes of a record without elements: 30, 38 and 32 in Codec 8, Codec 8 Extended and Codec 16.
+pub fn shortest_length(codec: Codec) -> usize
     ensures { result ≡ shortest_length codec }
 {
     match codec {

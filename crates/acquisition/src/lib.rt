@@ -1,0 +1,7 @@
+//! Which records a fix makes: a device's settings, checked so that each record fits 255 bytes, and the acquirer, which keeps one
+//! watch for each I/O setting and the last fix that made a record.
+#![tactic(auto)]
+
+mod settings;
+
+pub use settings::{SettingFault, Settings};
