@@ -2,6 +2,12 @@
 //! watch for each I/O setting and the last fix that made a record.
 #![tactic(auto)]
 
+mod elements;
+mod firing;
+mod fix;
+mod last_fix;
+mod making;
 mod settings;
 
+pub use fix::Fix;
 pub use settings::{SettingFault, Settings};

@@ -1,0 +1,74 @@
+//! The records that a fix makes.
+ghost use Rattle.std.specs.Prelude.{◌≡◌, ◌≤◌, ◌+◌, length, IsTrue};
+ghost use Rattle.std.specs.List.{AllByRecursion};
+ghost use Rattle.std.specs.Int.{abs_diff};
+ghost use Rattle.avl_values.specs.RecordValue.{value_of};
+ghost use Rattle.avl_values.specs.Viewed.{record_of, records_of};
+ghost use Rattle.record_layout.specs.SomeRecord.{IsSomeRecord};
+ghost use Rattle.record_layout.specs.Spelling.{HasNoOther, IsRecord};
+ghost use Rattle.record_writing.specs.Length.{record_length};
+ghost use Rattle.record_writing.specs.Refusal.{HasNarrowIds};
+ghost use Rattle.acquisition.specs.Checked.{AreChecked, AreNarrow, IsNarrow};
+ghost use Rattle.acquisition.specs.Deciding.{is_due, last_of, made, reaches, turned};
+ghost use Rattle.acquisition.specs.Elements.{ValuesFit};
+ghost use Rattle.acquisition.specs.Made.{in_codec, plain_record, event_record, record_at, value_at};
+
+use crate::elements::elements;
+use crate::fix::Fix;
+use crate::last_fix::LastFix;
+use crate::settings::Settings;
+use arrayvec::ArrayVec;
+use avl_values::{AvlRecord, Codec, NxList, Rec};
+use io_operands::IoSetting;
+use record_writing::write_record;
+
+impl LastFix {
+    pub fn of(fix: &Fix) -> LastFix
+        ensures { result ≡ last_of fix.now }
+    {
+        LastFix {
+            time: fix.time,
+            odometer: fix.odometer,
+            angle: fix.gps.angle,
+            speed: fix.gps.speed,
+        }
+    }
+}
+
+/// Whether a difference is at least its setting, which isn't switched off.
+fn reaches(setting: u64, difference: u64) -> bool
+    ensures { result ≡ reaches setting difference }
+{
+    setting != 0 && setting <= difference
+}
+
+/// The angle between two directions in degrees, the shorter way round.
+fn turned(a: u16, b: u16) -> u16
+    ensures { result ≡ turned a b }
+{
+    let d = a.abs_diff(b) % 360;
+    d.min(360 - d)
+}
+
+/// A generation type, which only Codec 16 has.
+fn in_codec(codec: Codec, generation: u8) -> u8
+    ensures { result ≡ in_codec codec generation }
+{
+    match codec {
+        Codec::C8 | Codec::C8E => 0,
+        Codec::C16 => generation,
+    }
+}
+
+/// The record of a value that the codec has and that has room.
+fn spell(codec: Codec, value: &AvlRecord) -> Rec
+    requires in_codec { HasNoOther codec (value_of value.now) }
+    requires narrow { HasNarrowIds codec value.now }
+    requires room { record_length codec (value_of value.now) ≤ 255 }
+    ensures codec { result.codec ≡ codec }
+    ensures record { IsRecord codec (value_of value.now) result.bytes.items }
+{
+    let mut bytes = ArrayVec::new();
+    let _written = write_record(codec, value, &mut bytes);
+    Rec { codec, bytes }
+}
