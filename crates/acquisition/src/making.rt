@@ -72,3 +72,46 @@ fn spell(codec: Codec, value: &AvlRecord) -> Rec
     let _written = write_record(codec, value, &mut bytes);
     Rec { codec, bytes }
 }
+
+impl Settings {
+    /// A record of a fix before it is spelled.
+    fn draft(&self, fix: &Fix, event: u16, priority: u8, generation: u8) -> AvlRecord
+        requires { ValuesFit self.now.ios fix.now.values.items }
+        ensures value { value_of result ≡ value_at self.now fix.now event priority generation }
+        ensures in_codec { HasNoOther self.now.codec (value_of result) }
+        ensures narrow { IsNarrow self.now.codec event → HasNarrowIds self.now.codec result }
+        ensures room { record_length self.now.codec (value_of result) ≤ 255 }
+    {
+        AvlRecord {
+            time: fix.time,
+            priority,
+            gps: fix.gps,
+            event,
+            generation: in_codec(self.codec, generation),
+            ios: elements(self.ios.as_slice(), fix.values.as_slice()),
+            nx: NxList::new(),
+        }
+    }
+
+    fn record(&self, fix: &Fix, event: u16, priority: u8, generation: u8) -> Rec
+        requires fit { ValuesFit self.now.ios fix.now.values.items }
+        requires narrow { IsNarrow self.now.codec event }
+        ensures record { record_of result ≡ record_at self.now fix.now event priority generation }
+        ensures some { IsSomeRecord self.now.codec result.bytes.items }
+    {
+        spell(self.codec, &self.draft(fix, event, priority, generation))
+    }
+
+    /// Whether a fix makes a record where no setting fires.
+    fn is_due(&self, last: Option<LastFix>, fix: &Fix) -> bool
+        ensures { result ≡ is_due self.now last fix.now }
+    {
+        let Some(last) = last else {
+            return true;
+        };
+        reaches(self.period, fix.time.abs_diff(last.time))
+            || reaches(self.distance, fix.odometer.abs_diff(last.odometer))
+            || fix.gps.speed >= 5 && reaches(self.angle as u64, turned(fix.gps.angle, last.angle) as u64)
+            || reaches(self.speed as u64, fix.gps.speed.abs_diff(last.speed) as u64)
+    }
+}

@@ -25,12 +25,12 @@ pub enum SettingFault {
 /// What a device acquires records by (this project's own). Each record that such settings make has at most 255 bytes.
 #[derive(Drop)]
 pub struct Settings {
-    codec: Codec,
-    period: u64,
-    distance: u64,
-    angle: u16,
-    speed: u16,
-    ios: ArrayVec<IoSetting, 32>,
+    pub(crate) codec: Codec,
+    pub(crate) period: u64,
+    pub(crate) distance: u64,
+    pub(crate) angle: u16,
+    pub(crate) speed: u16,
+    pub(crate) ios: ArrayVec<IoSetting, 32>,
 }
 
 impl Model for Settings {
