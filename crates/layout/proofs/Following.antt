@@ -1,5 +1,5 @@
 -- Rows that are followed by others, for code that goes over them field by field.
-use Rattle.std.proofs.Common.{◌≡◌, ℕ, List, Option, Some, None, refl}
+use Rattle.std.proofs.Common.{◌≡◌, ℕ, List, Option, Some, refl}
 use Rattle.avl_values.specs.declared.fault.FaultKind.{FaultKind}
 use Rattle.layout.specs.Rows.{Rows, done, refuse, row}
 use Rattle.layout.specs.Fields.{followed_by}
@@ -10,7 +10,7 @@ unfolding followed_by
 follow_done v after = refl
 
 pub follow_row : {V W : Type 0} (width : ℕ) (rule : List ℕ → Option FaultKind) (rest : List ℕ → Rows V) (after : V → Rows W)
-  → followed_by (row width rule rest) after ≡ row width rule (λ field. followed_by (rest field) after)
+    → followed_by (row width rule rest) after ≡ row width rule (λ field. followed_by (rest field) after)
 unfolding followed_by
 follow_row width rule rest after = refl
 

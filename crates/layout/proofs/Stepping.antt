@@ -1,8 +1,8 @@
 -- The verdict, field by field, for code that goes over rows: `width_of`, `rule_of` and `rows_after` say what stands next.
-use Rattle.std.proofs.Common.{◌≡◌, ℕ, ◌+◌, ◌-◌, ◌<◌, ◌≤◌, List, length, take, drop, Option, Some, None, refl, sym, ap, subst, ◌∙◌, arith}
+use Rattle.std.proofs.Common.{◌≡◌, ℕ, ◌+◌, ◌-◌, ◌<◌, ◌≤◌, List, length, take, drop, Some, None, sym, ap, subst, ◌∙◌, arith}
 use Rattle.avl_values.specs.declared.fault.FaultKind.{FaultKind}
 use Rattle.avl_values.specs.declared.fault.FaultKind.TheVariants.{Overrun, Excess}
-use Rattle.layout.specs.Rows.{Rows, done, refuse, row, Verdict, whole, short, fault, judge, unless_fault, body}
+use Rattle.layout.specs.Rows.{Rows, done, refuse, row, whole, short, fault, judge, unless_fault, body}
 use Rattle.layout.specs.Next.{width_of, rule_of, rows_after}
 use Rattle.layout.proofs.Judging.{judge_short, judge_long, judge_done, judge_refuse, within_full, within_excess, within_overrun, within_row}
 
@@ -17,7 +17,7 @@ step_short (refuse kind) w place bytes e few = absurd (cc)
 step_short (row n rule rest) w place bytes e few = judge_short n rule rest place bytes (omega (arith, width_is n w e))
 
 pub step_on : {V : Type 0} (rows : Rows V) (w place : ℕ) (bytes : List ℕ) → width_of rows ≡ Some w → w ≤ length bytes → rule_of rows (take w bytes) ≡ None
-  → judge rows place bytes ≡ judge (rows_after rows (take w bytes)) (place + w) (drop w bytes)
+    → judge rows place bytes ≡ judge (rows_after rows (take w bytes)) (place + w) (drop w bytes)
 step_on (done v) w place bytes e fits passes = absurd (cc)
 step_on (refuse kind) w place bytes e fits passes = absurd (cc)
 step_on {V = V} (row n rule rest) w place bytes e fits passes =
@@ -25,7 +25,7 @@ step_on {V = V} (row n rule rest) w place bytes e fits passes =
     subst P (sym (width_is n w e)) (judge_long w rule rest place bytes fits ∙ ap (λ o. unless_fault o place (judge (rest (take w bytes)) (place + w) (drop w bytes))) passes)
 
 pub step_fault : {V : Type 0} (rows : Rows V) (w place : ℕ) (kind : FaultKind) (bytes : List ℕ) → width_of rows ≡ Some w → w ≤ length bytes → rule_of rows (take w bytes) ≡ Some kind
-  → judge rows place bytes ≡ fault kind place
+    → judge rows place bytes ≡ fault kind place
 step_fault (done v) w place kind bytes e fits fails = absurd (cc)
 step_fault (refuse k) w place kind bytes e fits fails = absurd (cc)
 step_fault {V = V} (row n rule rest) w place kind bytes e fits fails =
@@ -60,13 +60,13 @@ pub body_missing : {V : Type 0} (rows : Rows V) (w room place : ℕ) (bytes : Li
 body_missing rows w room place bytes e fits few = step_short (body room rows) w place bytes (body_width rows w room e fits) few
 
 pub body_on : {V : Type 0} (rows : Rows V) (w room place : ℕ) (bytes : List ℕ) → width_of rows ≡ Some w → w ≤ room → w ≤ length bytes → rule_of rows (take w bytes) ≡ None
-  → judge (body room rows) place bytes ≡ judge (body (room - w) (rows_after rows (take w bytes))) (place + w) (drop w bytes)
+    → judge (body room rows) place bytes ≡ judge (body (room - w) (rows_after rows (take w bytes))) (place + w) (drop w bytes)
 body_on rows w room place bytes e fits long passes =
     step_on (body room rows) w place bytes (body_width rows w room e fits) long (body_rule rows w room (take w bytes) e fits ∙ passes)
     ∙ ap (λ r. judge r (place + w) (drop w bytes)) (body_rest rows w room (take w bytes) e fits)
 
 pub body_fault : {V : Type 0} (rows : Rows V) (w room place : ℕ) (kind : FaultKind) (bytes : List ℕ) → width_of rows ≡ Some w → w ≤ room → w ≤ length bytes → rule_of rows (take w bytes) ≡ Some kind
-  → judge (body room rows) place bytes ≡ fault kind place
+    → judge (body room rows) place bytes ≡ fault kind place
 body_fault rows w room place kind bytes e fits long fails =
     step_fault (body room rows) w place kind bytes (body_width rows w room e fits) long (body_rule rows w room (take w bytes) e fits ∙ fails)
 

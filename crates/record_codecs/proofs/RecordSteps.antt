@@ -1,5 +1,5 @@
 -- A record's cursor over bytes: each field on the way to the record's end or to a rule that fails.
-use Rattle.std.proofs.Common.{◌≡◌, ℕ, ◌+◌, ◌*◌, ◌<◌, ◌≤◌, List, [], ◌∷◌, ◌++◌, length, take, drop, Option, Some, None, Ok, Err, refl, sym, ap, subst, ◌∙◌, arith, length-take, length-drop}
+use Rattle.std.proofs.Common.{◌≡◌, ℕ, ◌+◌, ◌*◌, ◌<◌, ◌≤◌, List, [], ◌∷◌, length, take, drop, Option, Some, None, Ok, Err, refl, sym, ap, subst, ◌∙◌, arith, length-take, length-drop}
 use Rattle.std.proofs.Math.Seq.{take-length}
 use Rattle.std.proofs.lemmas.List.{append-nil}
 use Rattle.avl_values.specs.Width.{bytes_of}
@@ -11,7 +11,7 @@ use Rattle.layout.specs.Bytes.{AreBytes}
 use Rattle.layout.specs.Rows.{Rows, Verdict, judge, short, fault, whole, Fills}
 use Rattle.layout.proofs.RowLaws.{filled}
 use Rattle.layout.specs.Fields.{number}
-use Rattle.layout.specs.Next.{width_of, rule_of, rows_after}
+use Rattle.layout.specs.Next.{width_of}
 use Rattle.layout.proofs.Judging.{judge_done}
 use Rattle.layout.proofs.Stepping.{step_short, step_on, step_fault}
 use Rattle.record_layout.specs.declared.part.Part.{Part}
@@ -25,7 +25,7 @@ use Rattle.record_layout.specs.SomeRecord.{IsSomeRecord}
 use Rattle.record_layout.proofs.ReadLaws.{first_is}
 use Rattle.record_layout.proofs.RecordFills.{lone_take}
 use Rattle.record_codecs.proofs.Turns.{part_width}
-use Rattle.record_codecs.specs.RecordCursor.{rows_in, rows_from, nothing, FollowsIn, Reads, weight_in, weight_from}
+use Rattle.record_codecs.specs.RecordCursor.{rows_in, rows_from, nothing, FollowsIn, Reads, weight_in}
 
 -- what is left of the record is judged from here on
 abbrev pub JudgedIn : Codec → List ℕ → InRecord → ℕ → List ℕ → Type 0
@@ -41,11 +41,11 @@ pub front_width : (rows : Rows (Unit {0})) (w : ℕ) (rest : List ℕ) → width
 front_width rows w rest width fits = let n : length (take w rest) ≡ w = omega (arith, length-take w rest) in ap (λ k. Some k) n ∙ sym width
 
 pub failed_in : (codec : Codec) (bytes : List ℕ) (at : InRecord) (place w : ℕ) (rest : List ℕ) (kind : FaultKind) → JudgedIn codec bytes at place rest → width_of (rows_in at) ≡ Some w → w ≤ length rest
-  → FollowsIn (rows_in at) (take w rest) (Err kind) → None ≡ first_record codec bytes
+    → FollowsIn (rows_in at) (take w rest) (Err kind) → None ≡ first_record codec bytes
 failed_in codec bytes at place w rest kind judged width fits fails = sym (ap end_of (judged ∙ step_fault (rows_in at) w place kind rest width fits fails))
 
 pub judged_from : (codec : Codec) (bytes : List ℕ) (at : InRecord) (place w : ℕ) (rest back : List ℕ) (next : Option InRecord) → JudgedIn codec bytes at place rest → width_of (rows_in at) ≡ Some w → w ≤ length rest
-  → FollowsIn (rows_in at) (take w rest) (Ok next) → back ≡ drop w rest → judge (lone_record codec) 0 bytes ≡ judge (rows_from next) (place + w) back
+    → FollowsIn (rows_in at) (take w rest) (Ok next) → back ≡ drop w rest → judge (lone_record codec) 0 bytes ≡ judge (rows_from next) (place + w) back
 judged_from codec bytes at place w rest back next judged width fits follows is =
     judged ∙ step_on (rows_in at) w place rest width fits follows.0 ∙ ap (λ r. judge r (place + w) (drop w rest)) follows.1 ∙ ap (λ b. judge (rows_from next) (place + w) b) (sym is)
 
@@ -60,7 +60,7 @@ falls_in at next w rest back fits is none turns =
     grind (arith)
 
 -- only a field of no bytes has weight
-none_is : (n : ℕ) → 0 < n → Some n ≡ Some 0 → ⊥
+pub none_is : (n : ℕ) → 0 < n → Some n ≡ Some 0 → ⊥
 none_is n some e = let z : n ≡ 0 = cc in omega arith
 
 some_width : (w : Width) → 0 < bytes_of w

@@ -1,16 +1,14 @@
 -- A record's cursor, field by field.
-use Rattle.std.proofs.Common.{◌≡◌, ℕ, ◌+◌, ◌≤◌, ◌<◌, ◌==◌, List, [], ◌∷◌, length, drop, Bool, true, false, not, nat_lt, Option, Some, None, Result, Ok, Err, refl, sym, ap, subst, ◌∙◌, ◌^◌, arith}
+use Rattle.std.proofs.Common.{◌≡◌, ℕ, ◌+◌, ◌≤◌, ◌<◌, ◌==◌, List, [], ◌∷◌, length, drop, Bool, true, false, not, nat_lt, Option, Some, None, Ok, Err, refl, sym, ap, subst, ◌∙◌, ◌^◌, arith}
 use Rattle.std.proofs.Math.Nat.{pow-le-pow_right}
 use Rattle.std.proofs.lemmas.Bool.{le-ltb}
 use Rattle.avl_values.specs.Width.{bytes_of}
-use Rattle.avl_values.specs.declared.codec.Codec.{Codec}
 use Rattle.avl_values.specs.declared.fault.FaultKind.{FaultKind}
 use Rattle.avl_values.specs.declared.fault.FaultKind.TheVariants.{TotalMismatch}
 use Rattle.avl_values.specs.declared.width.Width.{Width}
 use Rattle.avl_values.specs.declared.width.Width.TheVariants.{W1, W2, W4, W8}
-use Rattle.layout.specs.Rows.{Rows}
 use Rattle.layout.specs.Fields.{number, times, fault_unless}
-use Rattle.layout.specs.Next.{width_of, rule_of, rows_after}
+use Rattle.layout.specs.Next.{width_of}
 use Rattle.record_layout.specs.declared.part.Part.{Part}
 use Rattle.record_layout.specs.declared.part.Part.TheVariants.{Plain, Total, Pairs, Triples}
 use Rattle.record_layout.specs.RecordRows.{count_rule, pair_rows, triple_rows, parts_rows}
@@ -67,38 +65,40 @@ unfolding parts_rows
 plain_turn r w p field next is rows = subst (λ q. FollowsIn (rows_in (at.Part r q)) field (Ok next)) (sym is) (refl, sym rows)
 
 pub total_turn : (r : RecordState) (w : Width) (p : Part) (field : List ℕ) (value : ℕ) (next : Option InRecord) → p ≡ Total w → Some (length field) ≡ width_of (rows_in (at.Part r p)) → Reads field value
-  → rows_from next ≡ parts_left (record r { total = value }) → FollowsIn (rows_in (at.Part r p)) field (Ok next)
+    → rows_from next ≡ parts_left (record r { total = value }) → FollowsIn (rows_in (at.Part r p)) field (Ok next)
 unfolding parts_rows
 total_turn r w p field value next is width reads rows =
     let n = value_is r p field value width reads in
     subst (λ q. FollowsIn (rows_in (at.Part r q)) field (Ok next)) (sym is) (refl, ap (λ k. parts_left (record r { total = k })) n ∙ sym rows)
 
 pub pairs_turn : (r : RecordState) (c i w : Width) (p : Part) (field : List ℕ) (value counted : ℕ) (next : Option InRecord) → p ≡ Pairs c i w → Some (length field) ≡ width_of (rows_in (at.Part r p)) → Reads field value
-  → Some counted ≡ counted_with (drop r.part (parts_of r.codec)) r.total (r.counted + value) → rows_from next ≡ times value (pair_rows i w) (parts_left (record r { counted = counted }))
-  → FollowsIn (rows_in (at.Part r p)) field (Ok next)
+    → Some counted ≡ counted_with (drop r.part (parts_of r.codec)) r.total (r.counted + value) → rows_from next ≡ times value (pair_rows i w) (parts_left (record r { counted = counted }))
+    → FollowsIn (rows_in (at.Part r p)) field (Ok next)
 unfolding parts_rows
 pairs_turn r c i w p field value counted next is width reads passes rows =
     let n = value_is r p field value width reads in
     let ps = drop r.part (parts_of r.codec) in
     let q = rule_passes (count_rule ps r.total (r.counted + value)) (r.counted + value) counted passes in
-    subst (λ q. FollowsIn (rows_in (at.Part r q)) field (Ok next)) (sym is)
-      (ap (λ k. count_rule ps r.total (r.counted + k)) n ∙ q.0,
-       ap (λ k. times k (pair_rows i w) (parts_left (record r { counted = r.counted + k }))) n ∙ ap (λ k. times value (pair_rows i w) (parts_left (record r { counted = k }))) (sym q.1) ∙ sym rows)
+    subst (λ q. FollowsIn (rows_in (at.Part r q)) field (Ok next)) (sym is) (
+      ap (λ k. count_rule ps r.total (r.counted + k)) n ∙ q.0,
+      ap (λ k. times k (pair_rows i w) (parts_left (record r { counted = r.counted + k }))) n ∙ ap (λ k. times value (pair_rows i w) (parts_left (record r { counted = k }))) (sym q.1) ∙ sym rows,
+    )
 
 pub triples_turn : (r : RecordState) (c i w : Width) (p : Part) (field : List ℕ) (value counted : ℕ) (next : Option InRecord) → p ≡ Triples c i w → Some (length field) ≡ width_of (rows_in (at.Part r p)) → Reads field value
-  → Some counted ≡ counted_with (drop r.part (parts_of r.codec)) r.total (r.counted + value) → rows_from next ≡ times value (triple_rows i w) (parts_left (record r { counted = counted }))
-  → FollowsIn (rows_in (at.Part r p)) field (Ok next)
+    → Some counted ≡ counted_with (drop r.part (parts_of r.codec)) r.total (r.counted + value) → rows_from next ≡ times value (triple_rows i w) (parts_left (record r { counted = counted }))
+    → FollowsIn (rows_in (at.Part r p)) field (Ok next)
 unfolding parts_rows
 triples_turn r c i w p field value counted next is width reads passes rows =
     let n = value_is r p field value width reads in
     let ps = drop r.part (parts_of r.codec) in
     let q = rule_passes (count_rule ps r.total (r.counted + value)) (r.counted + value) counted passes in
-    subst (λ q. FollowsIn (rows_in (at.Part r q)) field (Ok next)) (sym is)
-      (ap (λ k. count_rule ps r.total (r.counted + k)) n ∙ q.0,
-       ap (λ k. times k (triple_rows i w) (parts_left (record r { counted = r.counted + k }))) n ∙ ap (λ k. times value (triple_rows i w) (parts_left (record r { counted = k }))) (sym q.1) ∙ sym rows)
+    subst (λ q. FollowsIn (rows_in (at.Part r q)) field (Ok next)) (sym is) (
+      ap (λ k. count_rule ps r.total (r.counted + k)) n ∙ q.0,
+      ap (λ k. times k (triple_rows i w) (parts_left (record r { counted = r.counted + k }))) n ∙ ap (λ k. times value (triple_rows i w) (parts_left (record r { counted = k }))) (sym q.1) ∙ sym rows,
+    )
 
 pub pairs_fail : (r : RecordState) (c i w : Width) (p : Part) (field : List ℕ) (value : ℕ) → p ≡ Pairs c i w → Some (length field) ≡ width_of (rows_in (at.Part r p)) → Reads field value
-  → None ≡ counted_with (drop r.part (parts_of r.codec)) r.total (r.counted + value) → FollowsIn (rows_in (at.Part r p)) field (Err TotalMismatch)
+    → None ≡ counted_with (drop r.part (parts_of r.codec)) r.total (r.counted + value) → FollowsIn (rows_in (at.Part r p)) field (Err TotalMismatch)
 unfolding parts_rows
 pairs_fail r c i w p field value is width reads fails =
     let n = value_is r p field value width reads in
@@ -106,7 +106,7 @@ pairs_fail r c i w p field value is width reads fails =
     subst (λ q. FollowsIn (rows_in (at.Part r q)) field (Err TotalMismatch)) (sym is) (ap (λ k. count_rule ps r.total (r.counted + k)) n ∙ rule_fails ps r.total (r.counted + value) fails)
 
 pub triples_fail : (r : RecordState) (c i w : Width) (p : Part) (field : List ℕ) (value : ℕ) → p ≡ Triples c i w → Some (length field) ≡ width_of (rows_in (at.Part r p)) → Reads field value
-  → None ≡ counted_with (drop r.part (parts_of r.codec)) r.total (r.counted + value) → FollowsIn (rows_in (at.Part r p)) field (Err TotalMismatch)
+    → None ≡ counted_with (drop r.part (parts_of r.codec)) r.total (r.counted + value) → FollowsIn (rows_in (at.Part r p)) field (Err TotalMismatch)
 unfolding parts_rows
 triples_fail r c i w p field value is width reads fails =
     let n = value_is r p field value width reads in

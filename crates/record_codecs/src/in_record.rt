@@ -53,7 +53,13 @@ impl RecordState {
         ensures turns { weight_from result ≡ 0 }
     {
         let part = parts(self.codec).get(self.part)?;
-        Some(InRecord::Part(RecordState { part: self.part + 1, ..self }, *part))
+        Some(InRecord::Part(
+            RecordState {
+                part: self.part + 1,
+                ..self
+            },
+            *part,
+        ))
     }
 
     /// The next pair, or the next part.
@@ -64,7 +70,13 @@ impl RecordState {
         if pairs.left == 0 {
             self.next_part()
         } else {
-            Some(InRecord::Id(self, PairsLeft { left: pairs.left - 1, ..pairs }))
+            Some(InRecord::Id(
+                self,
+                PairsLeft {
+                    left: pairs.left - 1,
+                    ..pairs
+                },
+            ))
         }
     }
 
@@ -76,7 +88,13 @@ impl RecordState {
         if triples.left == 0 {
             self.next_part()
         } else {
-            Some(InRecord::TextId(self, TriplesLeft { left: triples.left - 1, ..triples }))
+            Some(InRecord::TextId(
+                self,
+                TriplesLeft {
+                    left: triples.left - 1,
+                    ..triples
+                },
+            ))
         }
     }
 
@@ -86,9 +104,17 @@ impl RecordState {
     {
         let counted = self.counted.checked_add(count)?;
         if self.part >= parts(self.codec).len() {
-            if counted == self.total { Some(counted) } else { None }
+            if counted == self.total {
+                Some(counted)
+            } else {
+                None
+            }
         } else {
-            if counted <= self.total { Some(counted) } else { None }
+            if counted <= self.total {
+                Some(counted)
+            } else {
+                None
+            }
         }
     }
 
@@ -99,14 +125,26 @@ impl RecordState {
     {
         match part {
             Part::Plain(_) => Ok(self.next_part()),
-            Part::Total(_) => Ok(RecordState { total: value, ..self }.next_part()),
+            Part::Total(_) => Ok(RecordState {
+                total: value,
+                ..self
+            }
+            .next_part()),
             Part::Pairs(_, id, width) => match self.counted_with(value) {
                 None => Err(FaultKind::TotalMismatch),
-                Some(counted) => Ok(RecordState { counted, ..self }.next_pair(PairsLeft { left: value, id, value: width })),
+                Some(counted) => Ok(RecordState { counted, ..self }.next_pair(PairsLeft {
+                    left: value,
+                    id,
+                    value: width,
+                })),
             },
             Part::Triples(_, id, length) => match self.counted_with(value) {
                 None => Err(FaultKind::TotalMismatch),
-                Some(counted) => Ok(RecordState { counted, ..self }.next_triple(TriplesLeft { left: value, id, length })),
+                Some(counted) => Ok(RecordState { counted, ..self }.next_triple(TriplesLeft {
+                    left: value,
+                    id,
+                    length,
+                })),
             },
         }
     }
@@ -130,7 +168,12 @@ impl InRecord {
         ensures rows { rows_in result ≡ lone_record codec }
         ensures turns { weight_in result ≡ 0 }
     {
-        let record = RecordState { codec, part: 1, total: 0, counted: 0 };
+        let record = RecordState {
+            codec,
+            part: 1,
+            total: 0,
+            counted: 0,
+        };
         InRecord::Part(record, Part::Plain(Width::W8))
     }
 
@@ -158,7 +201,9 @@ impl InRecord {
             InRecord::Id(record, pairs) => Ok(Some(InRecord::Value(record, pairs))),
             InRecord::Value(record, pairs) => Ok(record.next_pair(pairs)),
             InRecord::TextId(record, triples) => Ok(Some(InRecord::TextLength(record, triples))),
-            InRecord::TextLength(record, triples) => Ok(Some(InRecord::Text(record, triples, value))),
+            InRecord::TextLength(record, triples) => Ok(Some(InRecord::Text(
+                record, triples, value,
+            ))),
             InRecord::Text(record, triples, _) => Ok(record.next_triple(triples)),
         }
     }

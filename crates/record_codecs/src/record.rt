@@ -1,5 +1,5 @@
 //! Records alone.
-ghost use Rattle.std.specs.Prelude.{◌≡◌, ◌↔◌, IsTrue};
+ghost use Rattle.std.specs.Prelude.{◌≡◌, ◌≤◌, ◌↔◌, IsTrue, IfSome, length};
 ghost use Rattle.record_layout.specs.RecordsOf.{first_record};
 ghost use Rattle.record_codecs.specs.SomeRecord.{IsSomeRecord};
 
@@ -9,7 +9,8 @@ use avl_values::Codec;
 
 /// How many of these bytes are the record at their front; None where no record stands there whole.
 pub fn front_record(codec: Codec, bytes: &[u8]) -> Option<usize>
-    ensures { result ≡ first_record codec bytes.now }
+    ensures end { result ≡ first_record codec bytes.now }
+    ensures within { IfSome result (λ n. n ≤ length bytes.now) }
 {
     let mut at = InRecord::first(codec);
     let mut rest = bytes;

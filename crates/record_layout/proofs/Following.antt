@@ -1,5 +1,5 @@
 -- A record's rows and what follows are the rows of the record alone, followed by it.
-use Rattle.std.proofs.Common.{◌≡◌, ℕ, zero, suc, ◌+◌, List, [], ◌∷◌, Option, None, refl, ap, ◌∙◌}
+use Rattle.std.proofs.Common.{◌≡◌, ℕ, zero, suc, ◌+◌, List, [], ◌∷◌, None, refl, ap, ◌∙◌}
 use mathlib.Core.Path.{fun_ext}
 use Rattle.avl_values.specs.Width.{bytes_of}
 use Rattle.avl_values.specs.declared.codec.Codec.{Codec}
@@ -29,10 +29,10 @@ parts_follow {W = W} (Total w ∷ ps) total counted rows after =
     ap (λ (g : ℕ → Rows W). number_row (bytes_of w) (λ _. None) g) (fun_ext (λ n. parts_follow ps n counted rows after))
 parts_follow {W = W} (Pairs c i w ∷ ps) total counted rows after =
     ap (λ (g : ℕ → Rows W). number_row (bytes_of c) (λ n. count_rule ps total (counted + n)) g)
-      (fun_ext (λ n. pairs_follow i w n (parts_rows ps total (counted + n) rows) after ∙ ap (λ r. times n (pair_rows i w) r) (parts_follow ps total (counted + n) rows after)))
+    (fun_ext (λ n. pairs_follow i w n (parts_rows ps total (counted + n) rows) after ∙ ap (λ r. times n (pair_rows i w) r) (parts_follow ps total (counted + n) rows after)))
 parts_follow {W = W} (Triples c i w ∷ ps) total counted rows after =
     ap (λ (g : ℕ → Rows W). number_row (bytes_of c) (λ n. count_rule ps total (counted + n)) g)
-      (fun_ext (λ n. triples_follow i w n (parts_rows ps total (counted + n) rows) after ∙ ap (λ r. times n (triple_rows i w) r) (parts_follow ps total (counted + n) rows after)))
+    (fun_ext (λ n. triples_follow i w n (parts_rows ps total (counted + n) rows) after ∙ ap (λ r. times n (triple_rows i w) r) (parts_follow ps total (counted + n) rows after)))
 
 pub record_follows : {W : Type 0} (codec : Codec) (after : Rows W) → followed_by (lone_record codec) (λ _. after) ≡ record_rows codec after
 unfolding followed_by

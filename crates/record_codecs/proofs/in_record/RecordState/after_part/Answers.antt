@@ -23,4 +23,4 @@ returns-in-None-counted_with-clause-follows c field width reads =
 pub returns-in-Some-counted_with-clause-follows : goal.returns-in-Some-counted_with-clause-follows
 returns-in-Some-counted_with-clause-follows c field width reads =
     triples_turn c.args.self c.in-Triples.field-0 c.in-Triples.id c.in-Triples.length c.args.part field c.args.value c.in-Some-counted_with.counted c.next_triple.result c.in-Triples.is width reads
-      c.in-Some-counted_with.ensures c.next_triple.ensures.rows
+    c.in-Some-counted_with.ensures c.next_triple.ensures.rows

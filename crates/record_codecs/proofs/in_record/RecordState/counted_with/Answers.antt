@@ -1,6 +1,5 @@
-use Rattle.std.proofs.Common.{◌≡◌, ◌+◌, ◌<◌, ◌≤◌, length, drop, Some, ap, ◌∙◌, arith, rules, length-drop}
+use Rattle.std.proofs.Common.{◌≡◌, ◌+◌, ◌<◌, length, drop, Some, ap, ◌∙◌, arith, rules, length-drop}
 use Rattle.record_layout.specs.Table.{parts_of}
-use Rattle.record_codecs.specs.RecordCursor.{counted_with}
 use Rattle.record_codecs.proofs.Turns.{counted_on}
 use Rattle.record_codecs.proofs.in_record.RecordState.counted_with.Goals as goal
 
