@@ -1,5 +1,5 @@
 -- What settings without a fault keep.
-use Rattle.std.proofs.Common.{◌≡◌, ℕ, zero, suc, ◌+◌, ◌<◌, ◌≤◌, List, [], ◌∷◌, length, Bool, true, false, cond, nat_lt, Option, Some, None, refl, sym, ap, subst, ◌∙◌, arith, if◌then◌else◌, ◌==◌}
+use Rattle.std.proofs.Common.{◌≡◌, ℕ, zero, suc, ◌+◌, ◌<◌, ◌≤◌, List, [], ◌∷◌, length, Bool, true, false, cond, not, nat_lt, Option, Some, None, refl, sym, ap, subst, ◌∙◌, arith, if◌then◌else◌, ◌==◌}
 use Rattle.std.specs.List.{AllByRecursion, sum_by, position, position_or_len}
 use Rattle.std.specs.Option.{is_none, option_map, unwrap_or}
 use Rattle.std.proofs.lemmas.Bool.Decides.{nat_tests}
@@ -36,7 +36,7 @@ no_index : (b : Bool) (n : ℕ) → cond b (Some n) None ≡ None → b ≡ fals
 no_index true n e = absurd (cc)
 no_index false n e = refl
 
-passes_not : (b : Bool) (n m : ℕ) → suc n ≤ cond b 0 (suc m) → (b ≡ false) × (n ≤ m)
+passes_not : (b : Bool) (n m : ℕ) → suc n ≤ cond (not b) (1 + m) 0 → (b ≡ false) × (n ≤ m)
 passes_not true n m h = absurd (omega arith)
 passes_not false n m h = (refl, omega arith)
 
