@@ -21,3 +21,12 @@ abbrev pub remembered : List Watched → List ℕ → List Watched
 remembered [] values = []
 remembered (w ∷ ws) [] = []
 remembered (w ∷ ws) (v ∷ vs) = record { setting = w.setting; last = Some v } ∷ remembered ws vs
+
+-- the values that watches have seen
+abbrev pub with_last : Option ℕ → List ℕ → List ℕ
+with_last None values = values
+with_last (Some v) values = v ∷ values
+
+abbrev pub seen : List Watched → List ℕ
+seen [] = []
+seen (w ∷ ws) = with_last w.last (seen ws)

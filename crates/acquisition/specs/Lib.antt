@@ -6,3 +6,4 @@ pub mod Made
 pub mod Settings
 pub mod Watching
 pub mod Checked
+pub mod Sound

@@ -1,7 +1,8 @@
 //! Which settings fire at a fix.
-ghost use Rattle.std.specs.Prelude.{◌≡◌, ◌≤◌, length};
-ghost use Rattle.acquisition.specs.Firing.{fired, remembered};
+ghost use Rattle.std.specs.Prelude.{◌≡◌, ◌≤◌, [], length};
+ghost use Rattle.acquisition.specs.Firing.{fired, remembered, seen, watched_by};
 
+use crate::settings::Settings;
 use arrayvec::ArrayVec;
 use io_operands::{IoSetting, Watch};
 
@@ -22,4 +23,16 @@ pub fn fired(watches: &[Watch], values: &[u64]) -> (ArrayVec<IoSetting, 32>, Arr
         after.push(watch);
     }
     (fired, after)
+}
+
+/// A watch for each setting, which has seen no value yet.
+pub fn watches(settings: &Settings) -> ArrayVec<Watch, 32>
+    ensures watched { result.items ≡ watched_by settings.now.ios [] }
+    ensures seen { seen result.items ≡ [] }
+{
+    let mut out = ArrayVec::new();
+    for s in settings.ios.as_slice() {
+        out.push(Watch::new(*s));
+    }
+    out
 }

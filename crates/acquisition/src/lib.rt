@@ -2,6 +2,7 @@
 //! watch for each I/O setting and the last fix that made a record.
 #![tactic(auto)]
 
+mod acquirer;
 mod elements;
 mod firing;
 mod fix;
@@ -9,5 +10,6 @@ mod last_fix;
 mod making;
 mod settings;
 
+pub use acquirer::Acquirer;
 pub use fix::Fix;
 pub use settings::{SettingFault, Settings};

@@ -1,5 +1,5 @@
 //! The records that a fix makes.
-ghost use Rattle.std.specs.Prelude.{◌≡◌, ◌≤◌, ◌+◌, length, IsTrue};
+ghost use Rattle.std.specs.Prelude.{◌≡◌, ◌≤◌, length, map};
 ghost use Rattle.std.specs.List.{AllByRecursion};
 ghost use Rattle.std.specs.Int.{abs_diff};
 ghost use Rattle.avl_values.specs.RecordValue.{value_of};
@@ -9,17 +9,20 @@ ghost use Rattle.record_layout.specs.Spelling.{HasNoOther, IsRecord};
 ghost use Rattle.record_writing.specs.Length.{record_length};
 ghost use Rattle.record_writing.specs.Refusal.{HasNarrowIds};
 ghost use Rattle.acquisition.specs.Checked.{AreChecked, AreNarrow, IsNarrow};
-ghost use Rattle.acquisition.specs.Deciding.{is_due, last_of, made, reaches, turned};
+ghost use Rattle.acquisition.specs.Deciding.{is_due, last_of, made, plain_if, reaches, turned};
 ghost use Rattle.acquisition.specs.Elements.{ValuesFit};
-ghost use Rattle.acquisition.specs.Made.{in_codec, plain_record, event_record, record_at, value_at};
+ghost use Rattle.acquisition.specs.Firing.{fired, seen, watched_by};
+ghost use Rattle.acquisition.specs.Made.{in_codec, event_record, record_at, value_at};
+ghost use Rattle.acquisition.specs.Sound.{AreRecordsOf};
 
 use crate::elements::elements;
+use crate::firing::fired;
 use crate::fix::Fix;
 use crate::last_fix::LastFix;
 use crate::settings::Settings;
 use arrayvec::ArrayVec;
 use avl_values::{AvlRecord, Codec, NxList, Rec};
-use io_operands::IoSetting;
+use io_operands::{IoSetting, Watch};
 use record_writing::write_record;
 
 impl LastFix {
@@ -113,5 +116,60 @@ impl Settings {
             || reaches(self.distance, fix.odometer.abs_diff(last.odometer))
             || fix.gps.speed >= 5 && reaches(self.angle as u64, turned(fix.gps.angle, last.angle) as u64)
             || reaches(self.speed as u64, fix.gps.speed.abs_diff(last.speed) as u64)
+    }
+
+    /// A record for each of these settings.
+    fn event_records(&self, fix: &Fix, fired: &[IoSetting]) -> ArrayVec<Rec, 32>
+        requires fit { ValuesFit self.now.ios fix.now.values.items }
+        requires narrow { AreNarrow self.now.codec fired.now }
+        requires few { length fired.now ≤ 32 }
+        ensures made { records_of result.items ≡ map (event_record self.now fix.now) fired.now }
+        ensures sound { AreRecordsOf self.now.codec (map (event_record self.now fix.now) fired.now) }
+    {
+        let mut records = ArrayVec::new();
+        for s in fired {
+            records.push(self.record(fix, s.id, s.priority, s.operand.generation()));
+        }
+        records
+    }
+
+    /// The record of a fix that is due, if it is.
+    fn plain_records(&self, last: Option<LastFix>, fix: &Fix) -> ArrayVec<Rec, 32>
+        requires { ValuesFit self.now.ios fix.now.values.items }
+        ensures made { records_of result.items ≡ plain_if (is_due self.now last fix.now) self.now fix.now }
+        ensures sound { AreRecordsOf self.now.codec (plain_if (is_due self.now last fix.now) self.now fix.now) }
+    {
+        let mut records = ArrayVec::new();
+        if self.is_due(last, fix) {
+            records.push(self.record(fix, 0, 0, 7));
+        }
+        records
+    }
+
+    /// The records of a fix at which these settings fire.
+    pub(crate) fn records(&self, last: Option<LastFix>, fix: &Fix, fired: &[IoSetting]) -> ArrayVec<Rec, 32>
+        requires fit { ValuesFit self.now.ios fix.now.values.items }
+        requires narrow { AreNarrow self.now.codec fired.now }
+        requires few { length fired.now ≤ 32 }
+        ensures made { records_of result.items ≡ made self.now last fix.now fired.now }
+        ensures sound { AreRecordsOf self.now.codec (made self.now last fix.now fired.now) }
+    {
+        match fired {
+            [] => self.plain_records(last, fix),
+            _ => self.event_records(fix, fired),
+        }
+    }
+
+    /// The settings that fire at a fix, and the watches after it.
+    pub(crate) fn fire(&self, watches: &[Watch], values: &[u64]) -> (ArrayVec<IoSetting, 32>, ArrayVec<Watch, 32>)
+        requires watched { watches.now ≡ watched_by self.now.ios (seen watches.now) }
+        requires fit { ValuesFit self.now.ios values.now }
+        ensures fired { result.0.items ≡ fired watches.now values.now }
+        ensures narrow { AreNarrow self.now.codec result.0.items }
+        ensures remembers { result.1.items ≡ watched_by self.now.ios values.now }
+        ensures seen { seen result.1.items ≡ values.now }
+    {
+        let _ios = &self.ios;
+        fired(watches, values)
     }
 }

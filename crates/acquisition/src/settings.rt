@@ -1,8 +1,11 @@
-ghost use Rattle.std.specs.Prelude.{◌≡◌, ◌<◌, ◌≤◌, ℕ, nat_lt, length, position, Some, None, IfSome, MatchResult, IfOk};
+ghost use Rattle.std.specs.Prelude.{◌≡◌, ◌<◌, ◌≤◌, ◌↔◌, nat_lt, length, position, Some, None, IfSome, IsTrue, MatchResult, IfOk};
 ghost use Rattle.std.specs.Option.{is_none};
 ghost use Rattle.avl_values.specs.Width.{width_of_bytes};
 ghost use Rattle.acquisition.specs.Checking.{full_length, setting_fault};
+ghost use Rattle.acquisition.specs.Elements.{ValuesFit};
 
+use crate::elements::values_fit;
+use crate::fix::Fix;
 use arrayvec::ArrayVec;
 use avl_values::{Codec, Width};
 use io_operands::IoSetting;
@@ -63,6 +66,13 @@ impl Settings {
             speed,
             ios: copy,
         })
+    }
+
+    /// Whether a fix has as many values as there are I/O settings, and each fits its setting's width.
+    pub fn fits(&self, fix: &Fix) -> bool
+        ensures { IsTrue result ↔ ValuesFit self.now.ios fix.now.values.items }
+    {
+        values_fit(self.ios.as_slice(), fix.values.as_slice())
     }
 
     pub fn codec(&self) -> Codec
