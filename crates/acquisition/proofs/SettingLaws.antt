@@ -73,7 +73,7 @@ checked codec ios e =
     let c = neither (id_too_wide codec ios) (record_too_long codec ios) b.1 in record {
       few = at_most (length ios) 32 (unless _ _ a.0);
       widths = each (λ s. is_none (width_of_bytes s.width) ≡ false) (λ s. bytes_of (width_of s) ≡ s.width) (λ s h. width_kept s.width h) ios
-        (none_passes (λ s. is_none (width_of_bytes s.width)) ios (none_mapped _ _ b.0));
+          (none_passes (λ s. is_none (width_of_bytes s.width)) ios (none_mapped _ _ b.0));
       narrow = narrow_in codec ios c.0;
       short = at_most (full_length codec ios) 255 (unless _ _ c.1);
     }
@@ -84,6 +84,10 @@ elements_length id [] [] widths fit = refl
 elements_length id [] (v ∷ vs) widths fit = absurd fit
 elements_length id (s ∷ ss) [] widths fit = absurd fit
 elements_length id (s ∷ ss) (v ∷ vs) widths fit =
-    omega (arith, widths.0, elements_length id ss vs widths.1 fit.1,
+    omega (
+      arith,
+      widths.0,
+      elements_length id ss vs widths.1 fit.1,
       sum_by-cons (λ (io : IoElement). bytes_of id + bytes_of io.width) (record { id = s.id; width = width_of s; value = v }) (elements ss vs),
-      sum_by-cons (λ (x : IoSetting). bytes_of id + x.width) s ss)
+      sum_by-cons (λ (x : IoSetting). bytes_of id + x.width) s ss,
+    )

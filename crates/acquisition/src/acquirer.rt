@@ -70,7 +70,9 @@ impl Acquirer {
         ensures watching { self.new ≡ record self.old { watching = (decided self.old.settings self.old.watching fix.now).watching } }
         ensures sound { AreRecordsOf self.old.settings.codec (records_of result.items) }
     {
-        let (fired, watches) = self.settings.fire(self.watches.as_slice(), fix.values.as_slice());
+        let (fired, watches) = self
+            .settings
+            .fire(self.watches.as_slice(), fix.values.as_slice());
         let records = self.settings.records(self.last, fix, fired.as_slice());
         self.watches = watches;
         if !records.is_empty() {

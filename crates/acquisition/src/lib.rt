@@ -13,3 +13,6 @@ mod settings;
 pub use acquirer::Acquirer;
 pub use fix::Fix;
 pub use settings::{SettingFault, Settings};
+
+#[cfg(test)]
+mod tests;

@@ -114,7 +114,8 @@ impl Settings {
         };
         reaches(self.period, fix.time.abs_diff(last.time))
             || reaches(self.distance, fix.odometer.abs_diff(last.odometer))
-            || fix.gps.speed >= 5 && reaches(self.angle as u64, turned(fix.gps.angle, last.angle) as u64)
+            || fix.gps.speed >= 5
+                && reaches(self.angle as u64, turned(fix.gps.angle, last.angle) as u64)
             || reaches(self.speed as u64, fix.gps.speed.abs_diff(last.speed) as u64)
     }
 
@@ -147,7 +148,12 @@ impl Settings {
     }
 
     /// The records of a fix at which these settings fire.
-    pub(crate) fn records(&self, last: Option<LastFix>, fix: &Fix, fired: &[IoSetting]) -> ArrayVec<Rec, 32>
+    pub(crate) fn records(
+        &self,
+        last: Option<LastFix>,
+        fix: &Fix,
+        fired: &[IoSetting],
+    ) -> ArrayVec<Rec, 32>
         requires fit { ValuesFit self.now.ios fix.now.values.items }
         requires narrow { AreNarrow self.now.codec fired.now }
         requires few { length fired.now ≤ 32 }
@@ -161,7 +167,11 @@ impl Settings {
     }
 
     /// The settings that fire at a fix, and the watches after it.
-    pub(crate) fn fire(&self, watches: &[Watch], values: &[u64]) -> (ArrayVec<IoSetting, 32>, ArrayVec<Watch, 32>)
+    pub(crate) fn fire(
+        &self,
+        watches: &[Watch],
+        values: &[u64],
+    ) -> (ArrayVec<IoSetting, 32>, ArrayVec<Watch, 32>)
         requires watched { watches.now ≡ watched_by self.now.ios (seen watches.now) }
         requires fit { ValuesFit self.now.ios values.now }
         ensures fired { result.0.items ≡ fired watches.now values.now }

@@ -51,7 +51,14 @@ impl Model for Settings {
 impl Settings {
     /// Settings for a device: the period in milliseconds, the distance in metres, the angle in degrees and the speed in km/h. Each
     /// of them that is 0 is switched off. The faults are judged in the order of the enum. It takes no memory.
-    pub fn check(codec: Codec, period: u64, distance: u64, angle: u16, speed: u16, ios: &[IoSetting]) -> Result<Settings, SettingFault>
+    pub fn check(
+        codec: Codec,
+        period: u64,
+        distance: u64,
+        angle: u16,
+        speed: u16,
+        ios: &[IoSetting],
+    ) -> Result<Settings, SettingFault>
         ensures checked { MatchResult result (λ _. setting_fault codec ios.now ≡ None) (λ fault. setting_fault codec ios.now ≡ Some fault) }
         ensures settings { IfOk result (λ s. s ≡ record { codec = codec; period = period; distance = distance; angle = angle; speed = speed; ios = ios.now }) }
     {
@@ -116,7 +123,8 @@ fn first_bad_width(ios: &[IoSetting]) -> Option<usize>
     ensures is { result ≡ position (λ s. is_none (width_of_bytes s.width)) ios.now }
     ensures within { IfSome result (λ i. i < length ios.now) }
 {
-    ios.iter().position(|s| Width::from_bytes(s.width).is_none())
+    ios.iter()
+        .position(|s| Width::from_bytes(s.width).is_none())
 }
 
 /// The first I/O setting whose id has two bytes.

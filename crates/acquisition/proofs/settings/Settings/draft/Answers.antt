@@ -15,7 +15,7 @@ returns-clause-narrow c =
     let values = c.args.fix.now.values.items in
     let are : AreChecked settings.codec settings.ios = subst (λ (s : AcquisitionSettings). AreChecked s.codec s.ios) c.self.view_is (checked c.self.inside.codec c.self.inside.ios.items c.self.invariant) in
     let items : c.elements.result.items ≡ elements settings.ios values =
-      c.elements.ensures ∙ ap (λ x. elements x c.as_slice-2.result.now) (c.as_slice.ensures.value ∙ ap (λ (s : AcquisitionSettings). s.ios) c.self.view_is) ∙ ap (elements settings.ios) c.as_slice-2.ensures.value in
+    c.elements.ensures ∙ ap (λ x. elements x c.as_slice-2.result.now) (c.as_slice.ensures.value ∙ ap (λ (s : AcquisitionSettings). s.ios) c.self.view_is) ∙ ap (elements settings.ios) c.as_slice-2.ensures.value in
     draft_narrow settings.codec settings.ios values _ are c.requires items
 
 pub returns-clause-room : goal.returns-clause-room
@@ -24,6 +24,6 @@ returns-clause-room c =
     let values = c.args.fix.now.values.items in
     let are : AreChecked settings.codec settings.ios = subst (λ (s : AcquisitionSettings). AreChecked s.codec s.ios) c.self.view_is (checked c.self.inside.codec c.self.inside.ios.items c.self.invariant) in
     let items : c.elements.result.items ≡ elements settings.ios values =
-      c.elements.ensures ∙ ap (λ x. elements x c.as_slice-2.result.now) (c.as_slice.ensures.value ∙ ap (λ (s : AcquisitionSettings). s.ios) c.self.view_is) ∙ ap (elements settings.ios) c.as_slice-2.ensures.value in
+    c.elements.ensures ∙ ap (λ x. elements x c.as_slice-2.result.now) (c.as_slice.ensures.value ∙ ap (λ (s : AcquisitionSettings). s.ios) c.self.view_is) ∙ ap (elements settings.ios) c.as_slice-2.ensures.value in
     let generation : c.in_codec.result ≡ in_codec settings.codec c.args.generation = c.in_codec.ensures ∙ ap (λ (s : AcquisitionSettings). in_codec s.codec c.args.generation) c.self.view_is in
     draft_room settings.codec settings.ios values _ c.args.generation are c.requires items c.new.ensures generation

@@ -12,7 +12,7 @@ returns-clause-narrow c =
     let settings = c.args.self.now in
     let are : AreChecked settings.codec settings.ios = subst (λ (s : AcquisitionSettings). AreChecked s.codec s.ios) c.self.view_is (checked c.self.inside.codec c.self.inside.ios.items c.self.invariant) in
     subst (AreNarrow settings.codec) (sym (c.fired.ensures.fired ∙ ap (λ ws. fired ws c.args.values.now) c.requires.watched))
-      (fired_narrow settings.codec settings.ios (seen c.args.watches.now) c.args.values.now are.narrow)
+    (fired_narrow settings.codec settings.ios (seen c.args.watches.now) c.args.values.now are.narrow)
 
 pub fired-requires-clause-same : goal.fired-requires-clause-same
 fired-requires-clause-same c =
