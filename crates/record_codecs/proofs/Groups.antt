@@ -1,15 +1,12 @@
 -- Groups of elements, one element or one group further.
-use Rattle.std.proofs.Common.{◌≡◌, ℕ, zero, suc, ◌+◌, ◌-◌, ◌*◌, ◌<◌, ◌≤◌, ◌^◌, List, [], ◌∷◌, ◌++◌, length, get_or, take, drop, map, refl, sym, ap, ◌∙◌, arith, add-one, length-append, append_assoc}
-use Rattle.std.specs.List.{flat_map, AllByRecursion}
-use Rattle.std.proofs.Math.Seq.{drop-cons, take-append_seam, drop-append_seam}
+use Rattle.std.proofs.Common.{◌≡◌, ℕ, zero, suc, ◌+◌, ◌-◌, ◌*◌, ◌<◌, ◌≤◌, ◌^◌, List, [], ◌∷◌, ◌++◌, length, get_or, drop, sym, ap, ◌∙◌, arith}
 use Rattle.std.proofs.lemmas.List.{drop-drop}
 use Rattle.avl_values.specs.IoElement.{IoElement}
 use Rattle.avl_values.specs.Width.{bytes_of, limit}
 use Rattle.avl_values.specs.declared.codec.Codec.{Codec}
 use Rattle.avl_values.specs.declared.codec.Codec.TheVariants.{C8, C8E, C16}
 use Rattle.avl_values.specs.declared.width.Width.{Width}
-use Rattle.avl_values.specs.declared.width.Width.TheVariants.{W1, W2, W4, W8}
-use Rattle.record_codecs.specs.Elements.{id_width_of, count_width_of, all_widths, front_number, behind, pairs_in, behind_pairs, groups_in, behind_groups}
+use Rattle.record_codecs.specs.Elements.{id_width_of, count_width_of, front_number, behind, pairs_in, behind_pairs, groups_in, behind_groups}
 
 pub none_behind : (codec : Codec) (w : Width) (bytes : List ℕ) → behind_pairs codec w 0 bytes ≡ bytes
 none_behind codec w bytes = let n : 0 * (bytes_of (id_width_of codec) + bytes_of w) ≡ 0 = omega arith in ap (λ k. drop k bytes) n

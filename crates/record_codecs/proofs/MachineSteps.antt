@@ -1,11 +1,11 @@
 -- A machine over a body, byte by byte.
-use Rattle.std.proofs.Common.{◌≡◌, ℕ, zero, suc, ◌+◌, ◌-◌, ◌*◌, ◌%◌, ◌^◌, ◌<◌, ◌≤◌, List, [], ◌∷◌, ◌++◌, length, take, drop, Option, Some, None, Ok, Err, Result, refl, sym, ap, subst, ◌∙◌, arith, add-one, append_assoc, length-append}
+use Rattle.std.proofs.Common.{◌≡◌, ℕ, ◌+◌, ◌-◌, ◌*◌, ◌%◌, ◌^◌, ◌<◌, ◌≤◌, List, [], ◌∷◌, ◌++◌, length, take, drop, Some, None, Ok, Err, Result, refl, sym, ap, subst, ◌∙◌, arith, add-one, append_assoc, length-append}
 use Rattle.std.proofs.Math.Nat.{mod-eq_of_lt}
 use Rattle.std.proofs.Math.Seq.{take-append_seam, drop-append_seam, take-length}
 use Rattle.std.proofs.lemmas.List.{append-nil}
 use Rattle.avl_values.specs.declared.fault.FaultKind.{FaultKind}
 use Rattle.avl_values.specs.declared.fault.FaultKind.TheVariants.{Overrun, Excess}
-use Rattle.layout.specs.Rows.{Rows, Verdict, done, judge, body, short, fault, whole}
+use Rattle.layout.specs.Rows.{done, judge, body, short, fault, whole}
 use Rattle.layout.specs.Fields.{number}
 use Rattle.layout.specs.Next.{width_of, rule_of, rows_after}
 use Rattle.layout.proofs.Numbers.{number_push}
@@ -17,10 +17,9 @@ use Rattle.record_codecs.specs.declared.cursor.Cursor.TheVariants as cursor
 use Rattle.record_codecs.specs.declared.machine.RecordMachine.{RecordMachine}
 use Rattle.record_codecs.specs.declared.verdict.Scan.{Scan}
 use Rattle.record_codecs.specs.declared.verdict.Scan.TheVariants.{More, Whole, Broken}
-use Rattle.record_codecs.specs.BodyCursor.{rows_at, weight, Follows}
-use Rattle.record_codecs.specs.Machines.{HasTaken, Answers, StandsAt, HasCome, Enters}
+use Rattle.record_codecs.specs.BodyCursor.{rows_at, Follows}
+use Rattle.record_codecs.specs.Machines.{HasTaken, Answers, Enters}
 use Rattle.record_codecs.specs.RecordCursor.{Reads}
-use Rattle.record_codecs.specs.Verdicts.{scan_verdict}
 use Rattle.record_codecs.proofs.BodySteps.{judged_first}
 use Rattle.record_codecs.proofs.BodyTurns.{packet_width}
 use Rattle.record_codecs.proofs.Turns.{power_bound}
@@ -218,3 +217,13 @@ past total place at next more width follows =
 pub enters_past : (total place : ℕ) (at next : Cursor) (result : Result RecordMachine Scan) → width_of (rows_at at) ≡ Some 0 → Follows (rows_at at) [] (Ok next) → Enters total place next result → Enters total place at result
 enters_past total place at next (Ok m) width follows enters = (enters.0, λ more. past total place at next more width follows ∙ enters.1 more)
 enters_past total place at next (Err scan) width follows enters = (enters.0, λ more. past total place at next more width follows ∙ enters.1 more)
+
+-- What a machine has taken is short, and fewer bytes than the body's length.
+
+pub taken_short : (m : RecordMachine) (total : ℕ) (bytes : List ℕ) → HasTaken m total bytes → packet_verdict total bytes ≡ short
+taken_short m total bytes h =
+    ap (λ t. packet_verdict t bytes) (sym h.of_total) ∙ ap (packet_verdict m.total) h.is ∙ h.judged h.part
+    ∙ body_missing (rows_at m.cursor) (length h.part + m.missing) (m.total - m.start) m.start h.part h.width (omega (arith, h.room)) (omega (arith, h.lacks))
+
+pub taken_below : (m : RecordMachine) (total : ℕ) (bytes : List ℕ) → HasTaken m total bytes → length bytes < total
+taken_below m total bytes h = omega (arith, ap length h.is, length-append h.fields h.part, h.start, h.lacks, h.room, h.of_total)

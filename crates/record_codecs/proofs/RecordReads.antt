@@ -1,5 +1,5 @@
 -- The fields and elements of a record, read from its spelling.
-use Rattle.std.proofs.Common.{◌≡◌, ℕ, zero, suc, ◌+◌, ◌*◌, ◌<◌, List, [], ◌∷◌, ◌++◌, length, take, drop, refl, sym, ap, ◌∙◌, arith, append_assoc, length-append}
+use Rattle.std.proofs.Common.{◌≡◌, ℕ, suc, ◌+◌, ◌*◌, ◌<◌, List, [], ◌∷◌, ◌++◌, length, take, drop, refl, sym, ap, ◌∙◌, arith, append_assoc, length-append}
 use Rattle.std.specs.Int.{w16, w32, cast_signed, cast_unsigned}
 use Rattle.std.specs.List.{flat_map, AllByRecursion}
 use Rattle.std.proofs.Math.Seq.{take-append_seam, drop-append_seam}
@@ -14,7 +14,7 @@ use Rattle.avl_values.specs.declared.width.Width.{Width}
 use Rattle.avl_values.specs.declared.width.Width.TheVariants.{W1, W2, W4, W8}
 use Rattle.layout.specs.Bytes.{AreBytes}
 use Rattle.layout.specs.Fields.{number}
-use Rattle.record_layout.specs.Spelling.{spell, pair_bytes, triple_bytes, spelled, IsRecord}
+use Rattle.record_layout.specs.Spelling.{spell, pair_bytes, triple_bytes, IsRecord}
 use Rattle.record_layout.proofs.Table.{length-spell, number-spell}
 use Rattle.record_codecs.specs.Elements.{id_width_of, count_width_of, all_widths, front_number, behind, pairs_in, behind_pairs, groups_in, behind_groups, nx_in, nx_of, elements, ios_of}
 use Rattle.record_codecs.specs.Shown.{elements_from}

@@ -1,9 +1,8 @@
 -- Where a machine stands that takes a body byte by byte.
-use Rattle.std.specs.Prelude.{◌≡◌, ℕ, ◌+◌, ◌-◌, ◌<◌, ◌≤◌, ◌^◌, List, [], ◌∷◌, ◌++◌, length, Some, Result, Ok, Err}
-use Rattle.layout.specs.Rows.{Verdict, judge, body}
+use Rattle.std.specs.Prelude.{◌≡◌, ℕ, ◌+◌, ◌-◌, ◌<◌, ◌≤◌, ◌^◌, List, ◌++◌, length, Some, Result, Ok, Err}
+use Rattle.layout.specs.Rows.{judge, body}
 use Rattle.layout.specs.Fields.{number}
 use Rattle.layout.specs.Next.{width_of}
-use Rattle.record_layout.specs.declared.head.PacketHead.{PacketHead}
 use Rattle.record_layout.specs.PacketRows.{packet_verdict}
 use Rattle.record_codecs.specs.declared.cursor.Cursor.{Cursor}
 use Rattle.record_codecs.specs.declared.machine.RecordMachine.{RecordMachine}

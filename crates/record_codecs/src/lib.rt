@@ -22,6 +22,7 @@ pub use record::is_record;
 pub use record_iter::Records;
 pub use record_layout::PacketHead;
 pub use record_view::RecordView;
+pub use record_writing::{Body, WriteFault, write_record};
 pub use scanning::{read_packet, scan};
 pub use verdict::Scan;
 

@@ -1,7 +1,14 @@
-//! Bodies judged: those that Teltonika prints for the three codecs, and the first faults of small ones.
-use crate::{PacketHead, read_packet};
-use avl_values::{Codec, Fault, FaultKind};
+//! Bodies judged and read: those that Teltonika prints for the three codecs, and the first faults of small ones.
+ghost use Rattle.std.specs.Prelude.{◌≡◌, ◌<◌, length};
+
+use crate::{PacketHead, RecordMachine, Scan, is_record, read_packet, records, scan, view};
+use avl_values::{Codec, Fault, FaultKind, Gps, Io, Width};
+use std::marker::Brand;
+use std::mem::size_of;
+use std::process::Abort;
+use std::sync::ledger::{Blank, Ledger};
 use std::test::Fail;
+use step_count::Steps;
 
 /// The body of Teltonika's first example of Codec 8.
 const CODEC_8: [u8; 54] = [
@@ -86,5 +93,131 @@ fn first_faults(rt: HostRuntime) -> Result<(), Fail> {
     for (body, kind, place) in rows {
         assert_eq!(rt; read_packet(body), Err(Fault { kind, place }));
     }
+    Ok(())
+}
+
+/// Pushes a body into a machine up to the verdict, beside `scan` of the bytes so far. How often it answered More, and the verdict.
+fn both<L: Ledger>(rt: &impl Abort, body: &[u8], blank: Blank) -> (usize, Scan)
+    requires name { blank.name ≡ L.name }
+    requires parts { blank.parts ≡ L.parts }
+    requires some { 0 < blank.parts }
+    requires length { (0 < length body.now) × (length body.now < 1000) }
+{
+    let total = body.len() as u32;
+    let mut steps = Steps::<L>::new(blank);
+    let mut machine = RecordMachine::new(total);
+    for i in 0..body.len() {
+        let answer = machine.push(body[i], &mut steps);
+        assert_eq!(rt; answer, scan(&body[..i + 1], total));
+        match answer {
+            Scan::More => {}
+            verdict => return (i, verdict),
+        }
+    }
+    (body.len(), Scan::More)
+}
+
+#[test]
+fn machine_answers_what_scan_does(rt: HostRuntime) -> Result<(), Fail> {
+    assert!(rt; size_of::<RecordMachine>() <= 128);
+    let whole = Scan::Whole(PacketHead {
+        codec: Codec::C8E,
+        count: 1,
+    });
+    assert_eq!(rt;
+        both::<Brand>(&rt, &CODEC_8_EXTENDED, Blank::new(1)),
+        (73, whole)
+    );
+    Ok(())
+}
+
+#[test]
+fn machine_answers_what_scan_does_on_cut_bodies(rt: HostRuntime) -> Result<(), Fail> {
+    let bodies: [&[u8]; 3] = [&CODEC_8, &CODEC_8_EXTENDED, &CODEC_16];
+    for body in bodies {
+        assert!(rt; body.len() < 1000);
+        for end in 1..body.len() {
+            let (more, verdict) = both::<Brand>(&rt, &body[..end], Blank::new(1));
+            assert!(rt; more < end);
+            assert!(rt;
+                matches!(
+                    verdict,
+                    Scan::Broken(Fault {
+                        kind: FaultKind::Overrun,
+                        ..
+                    })
+                )
+            );
+        }
+    }
+    Ok(())
+}
+
+/// A record of Codec 8 Extended with one element of any length, west and south of the origin and below the sea.
+const EXTENDED_RECORD: [u8; 45] = [
+    0, 0, 0, 0, 0, 0, 0, 5, 2, 0xff, 0xff, 0xff, 0xfe, 0x80, 0, 0, 0, 0xff, 0xff, 0x01, 0x67, 9, 0,
+    80, 0, 7, 0, 1, 0, 0, 0, 0, 0, 0, 0, 0, 0, 1, 0, 7, 0, 3, 1, 2, 3,
+];
+
+#[test]
+fn values_of_16(rt: HostRuntime) -> Result<(), Fail> {
+    let mut both_records = records(&CODEC_16);
+    assert_eq!(rt; both_records.next().map_or(0, |r| r.len()), 46);
+    let second = both_records.next().ok_or("two records")?;
+    let in_16 = view(Codec::C16, second);
+    assert_eq!(rt; in_16.event(), 11);
+    assert_eq!(rt; in_16.generation(), Some(5));
+    assert!(rt; both_records.next().is_none());
+    Ok(())
+}
+
+#[test]
+fn values_of_8(rt: HostRuntime) -> Result<(), Fail> {
+    let first = records(&CODEC_8).next().ok_or("one record")?;
+    let in_8 = view(Codec::C8, first);
+    assert_eq!(rt; in_8.time(), 1_560_161_086_000);
+    assert_eq!(rt; in_8.priority(), 1);
+    assert_eq!(rt; in_8.generation(), None);
+    let mut ios = in_8.ios();
+    assert_eq!(rt; ios.next(), Io::new(21, Width::W1, 3));
+    assert_eq!(rt; ios.next(), Io::new(1, Width::W1, 1));
+    assert_eq!(rt; ios.next(), Io::new(66, Width::W2, 0x5e0f));
+    assert_eq!(rt; ios.next(), Io::new(241, Width::W4, 0x601a));
+    assert_eq!(rt; ios.next(), Io::new(78, Width::W8, 0));
+    assert_eq!(rt; ios.next(), None);
+    assert!(rt; in_8.nx().next().is_none());
+    Ok(())
+}
+
+#[test]
+fn values_of_8_extended(rt: HostRuntime) -> Result<(), Fail> {
+    let extended = view(Codec::C8E, &EXTENDED_RECORD);
+    let gps = Gps {
+        longitude: -2,
+        latitude: i32::MIN,
+        altitude: -1,
+        angle: 359,
+        satellites: 9,
+        speed: 80,
+    };
+    assert_eq!(rt; extended.gps(), gps);
+    assert_eq!(rt; extended.event(), 7);
+    let mut nx = extended.nx();
+    let (id, bytes) = nx.next().ok_or("one element")?;
+    assert_eq!(rt; id, 7);
+    assert_eq!(rt; bytes, [1, 2, 3].as_slice());
+    assert!(rt; nx.next().is_none());
+    Ok(())
+}
+
+#[test]
+fn records_alone(rt: HostRuntime) -> Result<(), Fail> {
+    assert!(rt; is_record(Codec::C8E, &EXTENDED_RECORD));
+    assert!(rt; !is_record(Codec::C8, &EXTENDED_RECORD));
+    assert!(rt; !is_record(Codec::C8E, &EXTENDED_RECORD[..44]));
+    assert!(rt; is_record(Codec::C8, &[0; 30]));
+    assert!(rt; !is_record(Codec::C8, &[0; 31]));
+    assert!(rt; is_record(Codec::C16, &[0; 32]));
+    assert!(rt; is_record(Codec::C8E, &[0; 38]));
     Ok(())
 }

@@ -1,4 +1,4 @@
-use Rattle.std.proofs.Common.{◌≡◌, ◌*◌, ◌+◌, get_or, drop, ap, sym, ◌∙◌, arith}
+use Rattle.std.proofs.Common.{◌≡◌, ◌*◌, ◌+◌, get_or, drop, ap, ◌∙◌, arith}
 use Rattle.avl_values.specs.Width.{bytes_of}
 use Rattle.avl_values.specs.declared.width.Width.TheVariants.{W1}
 use Rattle.record_codecs.specs.Elements.{all_widths, id_width_of, count_width_of, front_number, behind, behind_pairs}

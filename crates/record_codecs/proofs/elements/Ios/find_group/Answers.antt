@@ -1,4 +1,4 @@
-use Rattle.std.proofs.Common.{◌≡◌, ap, ◌∙◌}
+use Rattle.std.proofs.Common.{ap, ◌∙◌}
 use Rattle.record_codecs.specs.Elements.{front_number, behind}
 use Rattle.record_codecs.proofs.Groups.{next_group}
 use Rattle.record_codecs.proofs.elements.Ios.find_group.Goals as goal

@@ -1,7 +1,6 @@
-use Rattle.std.proofs.Common.{◌≡◌, ℕ, ◌-◌, ◌<◌, ◌∷◌, length, ap, sym, ◌∙◌, arith, rules}
+use Rattle.std.proofs.Common.{◌≡◌, ℕ, ◌-◌, ◌<◌, ◌∷◌, length, ap, sym, ◌∙◌, rules}
 use Rattle.avl_values.specs.IoElement.{IoElement}
 use Rattle.record_codecs.specs.Elements.{id_width_of, front_number, behind}
-use Rattle.record_codecs.specs.Views.{ios_left}
 use Rattle.record_codecs.proofs.Groups.{next_pair, left_of}
 use Rattle.record_codecs.proofs.elements.IosIterator.next.Goals as goal
 

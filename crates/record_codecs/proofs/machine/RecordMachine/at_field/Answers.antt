@@ -1,6 +1,6 @@
-use Rattle.std.proofs.Common.{◌≡◌, ◌+◌, ◌≤◌, [], Some, refl, ap, sym, ◌∙◌, arith}
+use Rattle.std.proofs.Common.{◌≡◌, [], Some, refl, ap, sym, ◌∙◌, arith}
 use Rattle.layout.specs.Next.{width_of}
-use Rattle.record_codecs.specs.BodyCursor.{rows_at, weight}
+use Rattle.record_codecs.specs.BodyCursor.{rows_at}
 use Rattle.record_codecs.proofs.BodySteps.{no_field}
 use Rattle.record_codecs.proofs.MachineSteps.{enters_broken, enters_past}
 use Rattle.record_codecs.proofs.machine.RecordMachine.at_field.Goals as goal

@@ -1,5 +1,4 @@
-use Rattle.std.proofs.Common.{◌≡◌, ℕ, ◌+◌, ◌-◌, ◌*◌, ◌%◌, ◌^◌, ◌<◌, List, ◌++◌, ◌∷◌, [], length, Ok, Err, refl, ap, sym, subst, ◌∙◌, arith, length-append}
-use Rattle.record_codecs.specs.declared.cursor.Cursor.{Cursor}
+use Rattle.std.proofs.Common.{◌≡◌, ℕ, ◌+◌, ◌-◌, ◌*◌, ◌%◌, ◌^◌, List, ◌++◌, ◌∷◌, [], length, Ok, Err, refl, ap, sym, subst, arith, length-append}
 use Rattle.record_codecs.specs.declared.machine.RecordMachine.{RecordMachine}
 use Rattle.record_codecs.specs.Machines.{HasTaken, Enters}
 use Rattle.record_codecs.proofs.MachineSteps.{OneMore, still_missing, field_width, field_reads, field_broken, field_passed, come, goes_on}

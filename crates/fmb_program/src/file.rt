@@ -1,0 +1,42 @@
+ghost use Rattle.std.specs.Prelude.{◌≡◌, None};
+
+use avl_values::Failed;
+use fmb_host::Source;
+use std::io::Read;
+
+/// A file, or any reader, as a text. It tells nothing of its bytes or its name.
+#[derive(Drop)]
+pub struct FileText<R> {
+    reader: R,
+    pub faults: u64,
+}
+
+impl<R: Read + Drop> FileText<R> {
+    pub fn new(reader: R) -> FileText<R>
+        ensures { result.faults ≡ 0 }
+    {
+        FileText { reader, faults: 0 }
+    }
+}
+
+impl<R: Read + Drop> Source for FileText<R> {
+    ghost left = { λ s. None };
+
+    ghost name = { λ s. None };
+
+    ghost failures = { λ s. s.faults };
+
+    fn faults(&self) -> u64 {
+        self.faults
+    }
+
+    fn read(&mut self, into: &mut [u8]) -> Result<usize, Failed> {
+        match self.reader.read(into) {
+            Ok(count) => Ok(count),
+            Err(_) => {
+                self.faults = self.faults.saturating_add(1);
+                Err(Failed)
+            }
+        }
+    }
+}

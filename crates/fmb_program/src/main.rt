@@ -1,0 +1,45 @@
+//! The program: `fmb trial FILE`. It is a host over the file system and standard output, and ends with the status of `run`.
+//! The adapters tell nothing of what a file holds or what standard output took; they count their failures.
+#![tactic(auto)]
+
+mod file;
+mod output;
+mod system;
+#[cfg(test)]
+mod tests;
+
+use crate::output::Output;
+use crate::system::System;
+use fmb_run::{give_up, run};
+use std::alloc::{AllocError, Global};
+use std::process::ExitCode;
+use std::{env, io};
+
+/// The words behind the program's name. Words that are no UTF-8 are none that the program knows: there are none then.
+fn words_of(rt: &HostRuntime) -> Result<Vec<String>, AllocError> {
+    let mut words = Vec::new(rt.alloc());
+    match env::args(rt) {
+        Ok(args) => {
+            for word in args.skip(1) {
+                words.push(word)?;
+            }
+        }
+        Err(e) => {
+            if e.kind() == io::ErrorKind::OutOfMemory {
+                return Err(AllocError);
+            }
+        }
+    }
+    Ok(words)
+}
+
+fn main(rt: HostRuntime) -> ExitCode {
+    let alloc: Global = rt.alloc();
+    let words = words_of(&rt);
+    let out = Output::new(rt.stdout());
+    let mut host = System::new(rt, out);
+    match words {
+        Ok(words) => ExitCode::from(run(alloc, words.as_slice(), &mut host)),
+        Err(AllocError) => ExitCode::from(give_up(&mut host)),
+    }
+}

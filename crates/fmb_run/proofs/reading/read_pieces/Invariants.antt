@@ -1,0 +1,13 @@
+use Rattle.std.proofs.Common.{◌≡◌, ◌≤◌, ◌<◌, ◌-◌, ◌^◌, length, vec_len}
+use Rattle.std.specs.Io.KnownBytes.{Consumes}
+use Rattle.fmb_run.proofs.reading.read_pieces.Given as goal
+
+abbrev pub invariant-pieces : goal.invariant-pieces
+invariant-pieces g l =
+    (vec_len l.text ≤ 2 ^ 24)
+    × (0 < length l.piece)
+    × Consumes (g.S.Source.left l.initial.source) (g.S.Source.left l.source) l.text.items
+    × (g.S.Source.failures l.source ≡ g.S.Source.failures l.initial.source)
+
+abbrev pub decreases-pieces : goal.decreases-pieces
+decreases-pieces g l = 2 ^ 24 - vec_len l.text

@@ -1,0 +1,4 @@
+pub mod Printed
+pub mod Text
+pub mod Trial
+pub mod Words

@@ -1,0 +1,63 @@
+-- What a trial that was read from a host comes to, by its status (this project's own).
+use Rattle.std.specs.Prelude.{◌≡◌, ◌≢◌, ◌⊎◌, ◌+◌, ℕ, Bool, List, Option, Some, Ok, Err, codes}
+use Rattle.fmb_host.specs.Host.{HostView}
+use Rattle.fmb_run.specs.Printed.{Prints, PrintsFront, PrintsWhole, SinkFailed}
+use Rattle.fmb_run.specs.Text.{IsOpened, IsReturned}
+use Rattle.fmb_text.specs.Refused.{refused_line}
+use Rattle.fmb_text.specs.Report.{report}
+use Rattle.trial_bench.specs.PlainScript.{Refusal, kind_name, script_of}
+use Rattle.trial_model.specs.Kept.{KeptRecords}
+use Rattle.trial_model.specs.Results.{Results}
+use Rattle.trial_model.specs.Script.{Script}
+
+-- the text is a script, and the outcome that was kept has, of that script, all that a trial keeps
+pub record IsPlayed (text : List ℕ) (kept : Option Results) : Type 0 where
+  pub script : Script
+  pub outcome : Results
+  pub is_script : script_of text ≡ Ok script
+  pub is_kept : kept ≡ Some outcome
+  pub holds : KeptRecords script outcome
+
+-- the text has a first fault, and its line was printed
+pub record IsRefused (text : List ℕ) (Printed : List ℕ → Type 0) : Type 0 where
+  pub refusal : Refusal
+  pub is_fault : script_of text ≡ Err refusal
+  pub printed : Printed (refused_line refusal.line (kind_name refusal.kind))
+
+-- an outcome was kept, and this holds of it
+abbrev pub IfKept : Option Results → (Results → Type 0) → Type 0
+IfKept kept P = (outcome : Results) × (kept ≡ Some outcome) × P outcome
+
+module _ {Text Out : Type 0} (written : Out → Option (List ℕ)) (failures : Out → ℕ) where
+  -- A text was judged, played and printed: 0 its report was printed, 5 the sink failed on the report, 3 it has a first
+  -- fault, 9 memory ran out.
+  pub record Judged (text : List ℕ) (brief : Bool) (status : ℕ) (before after : HostView Text Out) : Type 0 where
+    pub among : (status ≡ 0) ⊎ (status ≡ 3) ⊎ (status ≡ 5) ⊎ (status ≡ 9)
+    pub played : (status ≡ 0) ⊎ (status ≡ 5) → IsPlayed text after.kept
+    pub reported : status ≡ 0 → IfKept after.kept (λ outcome. PrintsWhole written failures (report outcome brief) before after)
+    pub cut_off : status ≡ 5 → IfKept after.kept (λ outcome. PrintsFront written failures (report outcome brief) before after)
+    pub sink_cause : status ≡ 5 → SinkFailed written failures before after
+    pub refused : status ≡ 3 → IsRefused text (λ line. Prints written failures line before after)
+    pub no_memory : status ≡ 9 → Prints written failures (codes "no memory\n") before after
+    pub kept_before : (status ≡ 3) ⊎ (status ≡ 9) → after.kept ≡ before.kept
+    pub others : after ≡ record before { kept = after.kept; sink = after.sink }
+
+  module _ (left name : Text → Option (List ℕ)) where
+    -- A trial of the text that a host opens by a name: as above, and 4 the text failed, 7 the host failed to open it.
+    pub record RanTrial (word : List ℕ) (brief : Bool) (status : ℕ) (before after : HostView Text Out) : Type 0 where
+      pub among : (status ≡ 0) ⊎ (status ≡ 3) ⊎ (status ≡ 4) ⊎ (status ≡ 5) ⊎ (status ≡ 7) ⊎ (status ≡ 9)
+      pub played : (status ≡ 0) ⊎ (status ≡ 5) → (text : List ℕ) × IsOpened left name word text before after × IsPlayed text after.kept
+      pub reported : status ≡ 0 → IfKept after.kept (λ outcome. PrintsWhole written failures (report outcome brief) before after)
+      pub cut_off : status ≡ 5 → IfKept after.kept (λ outcome. PrintsFront written failures (report outcome brief) before after)
+      pub sink_cause : status ≡ 5 → SinkFailed written failures before after
+      pub refused : status ≡ 3
+          → (text : List ℕ) × IsOpened left name word text before after × IsRefused text (λ line. Prints written failures line before after)
+      pub source_cause : status ≡ 4 → after.counts ≡ record before.counts { texts = before.counts.texts + 1 }
+      pub source_line : status ≡ 4 → Prints written failures (codes "source fault\n") before after
+      pub host_cause : status ≡ 7 → after.counts ≡ record before.counts { host = before.counts.host + 1 }
+      pub host_line : status ≡ 7 → Prints written failures (codes "host fault\n") before after
+      pub no_memory : status ≡ 9 → Prints written failures (codes "no memory\n") before after
+      pub counts_before : status ≢ 4 → status ≢ 7 → after.counts ≡ before.counts
+      pub kept_before : status ≢ 0 → status ≢ 5 → after.kept ≡ before.kept
+      pub returned : status ≢ 7 → IsReturned before after
+      pub nothing_opened : status ≡ 7 → (after.texts ≡ before.texts) × (after.texts_back ≡ before.texts_back)

@@ -1,0 +1,59 @@
+ghost use Rattle.std.specs.Prelude.{◌≡◌, ◌≢◌, ◌<◌, IfOk, Err, length};
+ghost use Rattle.avl_values.specs.Causes.{Rose};
+ghost use Rattle.fmb_run.specs.Text.{IsReadOf};
+
+use avl_values::{Failed, NoMemory};
+use fmb_host::Source;
+use std::alloc::Global;
+
+/// The most bytes that a script may have.
+const MOST: usize = 16_777_216;
+
+/// How many bytes are asked for at a time.
+const PIECE: usize = 65_536;
+
+/// Why a text was not read.
+#[derive(Clone, Copy, Debug, PartialEq, Eq)]
+pub(crate) enum Unread {
+    /// The source failed.
+    Failed,
+    NoMemory,
+}
+
+/// Reads a source to its end, or until there are more bytes than a script may have; then the first 2^24 + 1 are kept.
+pub(crate) fn read_text<S: Source>(alloc: Global, source: &mut S) -> Result<Vec<u8>, Unread>
+    ensures text { IfOk result (λ text. IsReadOf (S.left source.old) text.items) }
+    ensures failed { result ≡ Err Unread.Failed → Rose (S.failures source.old) (S.failures source.new) }
+    ensures passed { result ≢ Err Unread.Failed → S.failures source.new ≡ S.failures source.old }
+{
+    let Ok(mut piece) = vec![in alloc; 0u8; PIECE] else {
+        return Err(Unread::NoMemory);
+    };
+    read_pieces(alloc, source, piece.as_mut_slice())
+}
+
+fn read_pieces<S: Source>(
+    alloc: Global,
+    source: &mut S,
+    piece: &mut [u8],
+) -> Result<Vec<u8>, Unread>
+    requires { 0 < length piece.old }
+    ensures text { IfOk result (λ text. IsReadOf (S.left source.old) text.items) }
+    ensures failed { result ≡ Err Unread.Failed → Rose (S.failures source.old) (S.failures source.new) }
+    ensures passed { result ≢ Err Unread.Failed → S.failures source.new ≡ S.failures source.old }
+{
+    let mut text = Vec::new(alloc);
+    'pieces: loop {
+        let Ok(count) = source.read(piece) else {
+            return Err(Unread::Failed);
+        };
+        let room = MOST - text.len();
+        let kept = count.min(room + 1);
+        let Ok(()) = text.extend_from_slice(&piece[..kept]) else {
+            return Err(Unread::NoMemory);
+        };
+        if count == 0 || room < count {
+            return Ok(text);
+        }
+    }
+}

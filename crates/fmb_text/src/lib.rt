@@ -1,0 +1,15 @@
+//! What the program prints: the report of a trial's outcome, as a definition of its bytes and as a writer that is proved
+//! against it. A text is built whole in memory before its first byte is printed.
+#![tactic(auto)]
+
+mod connections;
+mod devices;
+mod ends;
+mod pieces;
+mod refused;
+mod report;
+#[cfg(test)]
+mod tests;
+
+pub use refused::refused_text;
+pub use report::report_text;

@@ -1,0 +1,4 @@
+use Rattle.record_codecs.proofs.tests.machine_answers_what_scan_does.Given as goal
+
+abbrev pub ghosts-both : goal.ghosts-both
+ghosts-both g a = record { name = a.blank.name; parts = a.blank.parts }

@@ -1,0 +1,9 @@
+pub mod Acquiring
+pub mod Bodies
+pub mod Once
+pub mod Plays
+pub mod Reading
+pub mod Records
+pub mod Splits
+pub mod Talks
+pub mod Values

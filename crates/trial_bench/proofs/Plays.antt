@@ -1,0 +1,248 @@
+-- What a script that is built decides for its device, and that its outcome keeps what every trial keeps.
+use Rattle.std.proofs.Common.{◌≡◌, ◌==◌, ◌+◌, ℕ, Bool, true, false, List, [], ◌∷◌, ◌++◌, map, fold, Option, Some, None, Result, Ok, option_map, if◌then◌else◌, refl, sym, ap, ◌∙◌, subst, inl, inr, append_assoc}
+use Rattle.std.specs.List.{AllZip, filter_map}
+use Rattle.std.proofs.lemmas.Bool.{eq-eqb, false≢true}
+use Rattle.std.proofs.lemmas.List.{append-nil, map_push}
+use Rattle.avl_values.specs.Record.{Record}
+use Rattle.avl_values.specs.declared.codec.Codec.{Codec}
+use Rattle.avl_values.specs.declared.codec.Codec.TheVariants.{C8}
+use Rattle.plain_records.specs.PlainBody.{plain_record}
+use Rattle.trial_model.specs.Acquired.{IsAcquired}
+use Rattle.trial_model.specs.Acquisition.{Decided, Watching, bytes_of, decided, is_due, powered_up}
+use Rattle.trial_model.specs.Decisions.{Decision, DeviceHistory, after_connection, after_fix, after_step, before_all, history_of, progress_of, records_decided, steps_of, store_cost}
+use Rattle.trial_model.specs.Load.{one_more}
+use Rattle.trial_model.specs.Kept.{KeptRecords, ends_of}
+use Rattle.trial_model.specs.NothingLost.{HasLostNothing}
+use Rattle.trial_model.specs.OnlyOnce.{HasOnlyAcquired}
+use Rattle.trial_model.specs.RecordLists.{first_places}
+use Rattle.trial_model.specs.Results.{Results}
+use Rattle.trial_model.specs.Script.{Device, Script, device_on, devices_of, lines_of, opening_of, setting_on}
+use Rattle.trial_model.specs.declared.fix.Fix.{Fix}
+use Rattle.trial_model.specs.declared.order.Order.TheVariants.{Oldest}
+use Rattle.trial_model.specs.declared.outcome.DeviceEnd.{DeviceEnd}
+use Rattle.trial_model.specs.declared.outcome.DeviceOutcome.{DeviceOutcome}
+use Rattle.trial_model.specs.declared.script.ScriptLine.{ScriptLine}
+use Rattle.trial_model.specs.declared.script.ScriptLine.TheVariants as Line
+use Rattle.trial_bench.specs.PlainOutcome.{made_by, made_from, outcome_by, outcome_of}
+use Rattle.trial_bench.specs.PlainScript.{Refusal}
+use Rattle.trial_bench.specs.ReadScript.{fix_part, plain_script_of, round_part}
+use Rattle.trial_bench.specs.Tracker.{due_by}
+use Rattle.trial_bench.specs.declared.plain_script.NumberedFix.{NumberedFix}
+use Rattle.trial_bench.specs.declared.plain_script.NumberedRound.{NumberedRound}
+use Rattle.trial_bench.specs.declared.plain_script.PlainScript.{PlainScript}
+use Rattle.trial_bench.proofs.Once.{in_itself, none_in, once}
+
+-- the lines of the script, by its parts
+abbrev pub round_lines : ℕ → Option NumberedRound → List ScriptLine
+round_lines imei None = []
+round_lines imei (Some r) = Line.Round imei r.piece None None ∷ []
+
+abbrev pub fix_lines : ℕ → List NumberedFix → Option NumberedRound → List ScriptLine
+fix_lines imei [] round = round_lines imei round
+fix_lines imei (f ∷ fs) round = Line.Fix imei f.fix ∷ fix_lines imei fs round
+
+abbrev pub device_line : PlainScript → ScriptLine
+device_line s = Line.Device s.imei C8 s.slots Oldest s.period 0 0 0 true
+
+abbrev pub plain_lines : PlainScript → List ScriptLine
+plain_lines s = device_line s ∷ fix_lines s.imei s.fixes.items s.round
+
+fix_lines_are : (imei : ℕ) (fs : List NumberedFix) (round : Option NumberedRound) → lines_of (map (fix_part imei) fs ++ round_part imei round) ≡ fix_lines imei fs round
+fix_lines_are imei [] None = refl
+fix_lines_are imei [] (Some r) = refl
+fix_lines_are imei (f ∷ fs) round = ap (λ ls. Line.Fix imei f.fix ∷ ls) (fix_lines_are imei fs round)
+
+pub lines_are : (s : PlainScript) → lines_of (plain_script_of s) ≡ plain_lines s
+unfolding plain_script_of
+lines_are s = ap (λ ls. device_line s ∷ ls) (fix_lines_are s.imei s.fixes.items s.round)
+
+-- its one device
+abbrev pub plain_device : PlainScript → Device
+plain_device s = record {
+  imei = s.imei;
+  codec = C8;
+  slots = s.slots;
+  order = Oldest;
+  period = s.period;
+  distance = 0;
+  angle = 0;
+  speed = 0;
+  known = true;
+  settings = [];
+}
+
+no_settings : (who imei : ℕ) (fs : List NumberedFix) (round : Option NumberedRound) → filter_map (setting_on who) (fix_lines imei fs round) ≡ []
+no_settings who imei [] None = refl
+no_settings who imei [] (Some r) = refl
+no_settings who imei (f ∷ fs) round = no_settings who imei fs round
+
+no_devices : (all : List ScriptLine) (imei : ℕ) (fs : List NumberedFix) (round : Option NumberedRound) → filter_map (device_on all) (fix_lines imei fs round) ≡ []
+no_devices all imei [] None = refl
+no_devices all imei [] (Some r) = refl
+no_devices all imei (f ∷ fs) round = no_devices all imei fs round
+
+pub one_device : (s : PlainScript) → devices_of (plain_lines s) ≡ plain_device s ∷ []
+one_device s = rw (no_settings s.imei s.imei s.fixes.items s.round, no_devices (plain_lines s) s.imei s.fixes.items s.round) refl
+
+-- a line that opens no connection has no end
+pub step_plain : (line : ScriptLine) (rest : List ScriptLine) (ends : List DeviceEnd) → opening_of line ≡ None → steps_of (line ∷ rest) ends ≡ record { line = line; end = None } ∷ steps_of rest ends
+step_plain line rest [] h = refl
+step_plain line rest (e ∷ es) h = rw h refl
+
+-- the history behind some fixes
+abbrev pub after_fixes : Device → DeviceHistory → List NumberedFix → DeviceHistory
+after_fixes device h [] = h
+after_fixes device h (f ∷ fs) = after_fixes device (after_fix device h f.fix) fs
+
+chosen : {A : Type 0} (b : Bool) (x y : A) → b ≡ true → (if b then x else y) ≡ x
+chosen true x y e = refl
+chosen false x y e = absurd (false≢true e)
+
+other : {A : Type 0} (b : Bool) (x y : A) → b ≡ false → (if b then x else y) ≡ y
+other true x y e = absurd (false≢true (sym e))
+other false x y e = refl
+
+own_fix : (device : Device) (h : DeviceHistory) (imei : ℕ) (fix : Fix) → imei ≡ device.imei → after_step device h (record { line = Line.Fix imei fix; end = None }) ≡ after_fix device h fix
+own_fix device h imei fix is = chosen (imei == device.imei) (after_fix device h fix) h (eq-eqb imei device.imei is)
+
+pub fixes_history : (device : Device) (h : DeviceHistory) (imei : ℕ) (fs : List NumberedFix) (round : Option NumberedRound) (ends : List DeviceEnd) → imei ≡ device.imei
+    → fold (after_step device) h (steps_of (fix_lines imei fs round) ends) ≡ fold (after_step device) (after_fixes device h fs) (steps_of (round_lines imei round) ends)
+fixes_history device h imei [] round ends is = refl
+fixes_history device h imei (f ∷ fs) round ends is =
+    let step = step_plain (Line.Fix imei f.fix) (fix_lines imei fs round) ends refl in
+    ap (fold (after_step device) h) step
+    ∙ (ap (λ (x : DeviceHistory). fold (after_step device) x (steps_of (fix_lines imei fs round) ends)) (own_fix device h imei f.fix is)
+    ∙ fixes_history device (after_fix device h f.fix) imei fs round ends is)
+
+-- a connection decides nothing
+own_round : (h : DeviceHistory) (own : Bool) (end : Option DeviceEnd) → (if own then after_connection false end h else h).decisions ≡ h.decisions
+own_round h true end = refl
+own_round h false end = refl
+
+round_decides : (device : Device) (h : DeviceHistory) (imei : ℕ) (round : Option NumberedRound) (ends : List DeviceEnd)
+    → (fold (after_step device) h (steps_of (round_lines imei round) ends)).decisions ≡ h.decisions
+round_decides device h imei None ends = refl
+round_decides device h imei (Some r) [] = own_round h (imei == device.imei) None
+round_decides device h imei (Some r) (e ∷ es) = own_round h (imei == device.imei) (Some e)
+
+pub history_is : (s : PlainScript) (ends : List DeviceEnd) → (history_of (plain_device s) (steps_of (plain_lines s) ends)).decisions ≡ (after_fixes (plain_device s) before_all s.fixes.items).decisions
+history_is s ends =
+    let step = step_plain (device_line s) (fix_lines s.imei s.fixes.items s.round) ends refl in
+    rw step (ap (λ h. h.decisions) (fixes_history (plain_device s) before_all s.imei s.fixes.items s.round ends refl)
+    ∙ round_decides (plain_device s) (after_fixes (plain_device s) before_all s.fixes.items) s.imei s.round ends)
+
+-- what the fixes decide is what they make
+abbrev pub time_of : Option Fix → Option ℕ
+time_of last = option_map (λ f. f.time) last
+
+due_is : (period : ℕ) (last : Option Fix) (fix : Fix) → due_by period (time_of last) fix.time ≡ is_due period last fix
+due_is period None fix = refl
+due_is period (Some f) fix = refl
+
+abbrev pub history_with : List Decision → Watching → ℕ → DeviceHistory
+history_with ds w load = record { decisions = ds; watching = w; fuse = None; load = load }
+
+-- the history by what a fix decides
+history_by_decided : Device → List Decision → ℕ → Decided → DeviceHistory
+history_by_decided device ds load x = record {
+  decisions = (progress_of device.slots None ds load x.records).decisions;
+  watching = x.watching;
+  fuse = None;
+  load = (progress_of device.slots None ds load x.records).load;
+}
+
+decides_one : (device : Device) (ds : List Decision) (w : Watching) (load : ℕ) (f : NumberedFix) (fs : List NumberedFix) (due : Bool) → is_due device.period w.last f.fix ≡ due → device.codec ≡ C8
+    → ((ds : List Decision) (w : Watching) (load : ℕ) → records_decided (after_fixes device (history_with ds w load) fs).decisions ≡ records_decided ds ++ made_from device.period (time_of w.last) fs)
+    → records_decided (after_fixes device (history_with ds w load) (f ∷ fs)).decisions ≡ records_decided ds ++ made_from device.period (time_of w.last) (f ∷ fs)
+unfolding made_from history_by_decided
+decides_one device ds w load f fs true e c more =
+    let due = due_is device.period w.last f.fix ∙ e in
+    let yes : Decided = record { records = record { codec = device.codec; bytes = bytes_of f.fix } ∷ []; watching = record { last = Some f.fix; watched = f.fix.values.items } } in
+    let no : Decided = record { records = []; watching = record { last = w.last; watched = f.fix.values.items } } in
+    let is : decided device w f.fix ≡ yes = chosen (is_due device.period w.last f.fix) yes no e in
+    let new : Decision = record { rec = record { codec = device.codec; bytes = bytes_of f.fix }; number = 0; load = load; cover = None; cost = 0 + store_cost device.slots load } in
+    let rest = made_from device.period (Some f.fix.time) fs in
+    let same : new.rec ≡ plain_record (bytes_of f.fix) = ap (λ (x : Codec). record { codec = x; bytes = bytes_of f.fix }) c in
+    let push = map_push (λ (d : Decision). d.rec) ds new in
+    let later = more (ds ++ new ∷ []) (record { last = Some f.fix; watched = f.fix.values.items }) (one_more device.slots load) in
+    let made = chosen (due_by device.period (time_of w.last) f.fix.time) (plain_record (bytes_of f.fix) ∷ rest) (made_from device.period (time_of w.last) fs) due in
+    ap (λ (x : Decided). records_decided (after_fixes device (history_by_decided device ds load x) fs).decisions) is
+    ∙ (later ∙ (ap (λ (xs : List Record). xs ++ rest) push ∙ (append_assoc (records_decided ds) (new.rec ∷ []) rest
+    ∙ (ap (λ (r : Record). records_decided ds ++ r ∷ rest) same ∙ ap (λ (xs : List Record). records_decided ds ++ xs) (sym made)))))
+decides_one device ds w load f fs false e c more =
+    let due = due_is device.period w.last f.fix ∙ e in
+    let yes : Decided = record { records = record { codec = device.codec; bytes = bytes_of f.fix } ∷ []; watching = record { last = Some f.fix; watched = f.fix.values.items } } in
+    let no : Decided = record { records = []; watching = record { last = w.last; watched = f.fix.values.items } } in
+    let is : decided device w f.fix ≡ no = other (is_due device.period w.last f.fix) yes no e in
+    let rest = made_from device.period (Some f.fix.time) fs in
+    let later = more ds (record { last = w.last; watched = f.fix.values.items }) load in
+    let made = other (due_by device.period (time_of w.last) f.fix.time) (plain_record (bytes_of f.fix) ∷ rest) (made_from device.period (time_of w.last) fs) due in
+    ap (λ (x : Decided). records_decided (after_fixes device (history_by_decided device ds load x) fs).decisions) is
+    ∙ (later ∙ ap (λ (xs : List Record). records_decided ds ++ xs) (sym made))
+
+pub fixes_decide : (device : Device) (ds : List Decision) (w : Watching) (load : ℕ) (fs : List NumberedFix) → device.codec ≡ C8
+    → records_decided (after_fixes device (history_with ds w load) fs).decisions ≡ records_decided ds ++ made_from device.period (time_of w.last) fs
+unfolding made_from
+fixes_decide device ds w load [] c = sym (append-nil (records_decided ds))
+fixes_decide device ds w load (f ∷ fs) c =
+    decides_one device ds w load f fs (is_due device.period w.last f.fix) refl c (λ ds w load. fixes_decide device ds w load fs c)
+
+pub decided_is : (s : PlainScript) (ends : List DeviceEnd) → records_decided (history_of (plain_device s) (steps_of (plain_lines s) ends)).decisions ≡ made_by s
+decided_is s ends = ap records_decided (history_is s ends) ∙ fixes_decide (plain_device s) [] powered_up 0 s.fixes.items refl
+
+-- what is kept: for the one device
+each_one : (P : Device → DeviceOutcome → Type 0) (s : PlainScript) (d : DeviceOutcome) → P (plain_device s) d → AllZip P (devices_of (plain_lines s)) (d ∷ [])
+each_one P s d h = subst (λ (ds : List Device). AllZip P ds (d ∷ [])) (sym (one_device s)) (h, tt)
+
+kept_by : (s : PlainScript) (outcome : Results) (d : DeviceOutcome) → outcome.devices ≡ d ∷ [] → d.imei ≡ s.imei → d.acquired ≡ first_places (made_by s) → HasOnlyAcquired d → HasLostNothing d
+    → KeptRecords (plain_script_of s) outcome
+kept_by s outcome d is imei acquired only lost =
+    let ends = ends_of outcome.connections in
+    let back = sym (lines_are s) in
+    let P : List ScriptLine → Device → DeviceOutcome → Type 0 = λ ls device d. IsAcquired device (history_of device (steps_of ls ends)) d in
+    let right : P (plain_lines s) (plain_device s) d = record { imei = imei; acquired = acquired ∙ ap first_places (sym (decided_is s ends)) } in
+    record {
+      acquired = subst (λ (ls : List ScriptLine). AllZip (P ls) (devices_of ls) outcome.devices) back (subst (λ (ds : List DeviceOutcome). AllZip (P (plain_lines s)) (devices_of (plain_lines s)) ds) (sym is) (each_one (P (plain_lines s)) s d right));
+      only_once = subst (λ (ls : List ScriptLine). AllZip (λ (device : Device) d. HasOnlyAcquired d) (devices_of ls) outcome.devices) back (subst (λ (ds : List DeviceOutcome). AllZip (λ (device : Device) d. HasOnlyAcquired d) (devices_of (plain_lines s)) ds) (sym is) (each_one (λ device d. HasOnlyAcquired d) s d only));
+      nothing_lost = subst (λ (ls : List ScriptLine). AllZip (λ (device : Device) d. HasLostNothing d) (devices_of ls) outcome.devices) back (subst (λ (ds : List DeviceOutcome). AllZip (λ (device : Device) d. HasLostNothing d) (devices_of (plain_lines s)) ds) (sym is) (each_one (λ device d. HasLostNothing d) s d lost));
+    }
+
+kept_round : (s : PlainScript) (round : Option NumberedRound) → KeptRecords (plain_script_of s) (outcome_by s.imei (made_by s) round)
+kept_round s None =
+    let all = first_places (made_by s) in
+    kept_by s (outcome_by s.imei (made_by s) None) (record { imei = s.imei; acquired = all; cut = []; overwritten = []; flash = all; archived = [] }) refl refl refl
+    (record {
+      flash = in_itself all;
+      archived = none_in all;
+      cut = none_in all;
+      overwritten = none_in all;
+      flash_once = once (made_by s);
+      archived_once = refl;
+      cut_once = refl;
+      overwritten_once = refl;
+    })
+    (λ k d below. inl (in_itself all k d below))
+kept_round s (Some r) =
+    let all = first_places (made_by s) in
+    kept_by s (outcome_by s.imei (made_by s) (Some r)) (record { imei = s.imei; acquired = all; cut = []; overwritten = []; flash = []; archived = all }) refl refl refl
+    (record {
+      flash = none_in all;
+      archived = in_itself all;
+      cut = none_in all;
+      overwritten = none_in all;
+      flash_once = refl;
+      archived_once = once (made_by s);
+      cut_once = refl;
+      overwritten_once = refl;
+    })
+    (λ k d below. inr (inl (in_itself all k d below)))
+
+pub kept_records : (s : PlainScript) → KeptRecords (plain_script_of s) (outcome_of s)
+kept_records s = kept_round s s.round
+
+-- the script of a text is one
+pub kept_told : (s : PlainScript) (outcome : Results) (told : Result Script Refusal) (script : Script) → told ≡ Ok (plain_script_of s) → outcome ≡ outcome_of s → told ≡ Ok script → KeptRecords script outcome
+kept_told s outcome told script is e also =
+    let k : ◌≡◌ {A = Result Script Refusal} (Ok (plain_script_of s)) (Ok script) = sym is ∙ also in
+    let same : plain_script_of s ≡ script = cc in
+    subst (λ (x : Script). KeptRecords x outcome) same (subst (λ (o : Results). KeptRecords (plain_script_of s) o) (sym e) (kept_records s))

@@ -1,0 +1,44 @@
+-- The bytes of a record, and lists of records.
+use Rattle.std.proofs.Common.{◌≡◌, ℕ, ◌+◌, ◌<◌, ◌||◌, Bool, true, false, List, [], ◌∷◌, ◌++◌, length, get_or, take, append_assoc, refl, sym, ap, ◌∙◌}
+use Rattle.std.specs.List.{list_any}
+use Rattle.std.specs.Int.{cast_unsigned, to_be_bytes, w16, w32, w64}
+use Rattle.std.proofs.lemmas.List.Folds.{list_any_at, list_any_more}
+use Rattle.avl_values.specs.Record.{Record}
+use Rattle.avl_values.specs.Viewed.{record_of, records_of}
+use Rattle.avl_values.specs.declared.gps.Gps.{Gps}
+use Rattle.avl_values.specs.declared.rec.Rec.{Rec}
+use Rattle.trial_model.specs.Acquisition.{bytes_of, gps_bytes}
+use Rattle.trial_model.specs.RecordLists.{is_listed, is_same}
+use Rattle.trial_model.specs.declared.fix.Fix.{Fix}
+
+pub gps_joined : (start : List ℕ) (g : Gps)
+    → start ++ to_be_bytes w32 (cast_unsigned w32 g.longitude) ++ to_be_bytes w32 (cast_unsigned w32 g.latitude) ++ to_be_bytes w16 (cast_unsigned w16 g.altitude)
+    ++ to_be_bytes w16 g.angle ++ g.satellites ∷ [] ++ to_be_bytes w16 g.speed ≡ start ++ gps_bytes g
+unfolding gps_bytes
+gps_joined start g = simp append_assoc
+
+pub fix_joined : (fix : Fix) → to_be_bytes w64 fix.time ++ 0 ∷ [] ++ gps_bytes fix.gps ++ 0 ∷ 0 ∷ 0 ∷ 0 ∷ 0 ∷ 0 ∷ [] ≡ bytes_of fix
+unfolding bytes_of
+fix_joined fix = simp append_assoc
+
+pub gps_length : (g : Gps) → length (gps_bytes g) ≡ 15
+unfolding gps_bytes
+gps_length g = refl
+
+-- a list of tracker's records as records
+any_of_records : (p : Record → Bool) (recs : List Rec) → list_any p (records_of recs) ≡ list_any (λ r. p (record_of r)) recs
+any_of_records p [] = refl
+any_of_records p (r ∷ rs) = ap (λ b. p (record_of r) || b) (any_of_records p rs)
+
+pub listed_at : (recs : List Rec) (r : Record) (i : ℕ) (x : Rec) → i < length recs → x ≡ get_or recs i x → is_same (record_of x) r ≡ true → is_listed (records_of recs) r ≡ true
+listed_at recs r i x below is same =
+    let P : Rec → Bool = λ s. is_same (record_of s) r in
+    any_of_records (λ s. is_same s r) recs ∙ list_any_at P recs i x below (sym (ap P is) ∙ same)
+
+pub not_listed_more : (recs : List Rec) (r : Record) (i : ℕ) (x : Rec) → i < length recs → x ≡ get_or recs i x → is_same (record_of x) r ≡ false
+    → is_listed (records_of (take i recs)) r ≡ false → is_listed (records_of (take (i + 1) recs)) r ≡ false
+not_listed_more recs r i x below is same before =
+    let P : Rec → Bool = λ s. is_same (record_of s) r in
+    let here : P (get_or recs i x) ≡ false = sym (ap P is) ∙ same in
+    let so_far : list_any P (take i recs) ≡ false = sym (any_of_records (λ s. is_same s r) (take i recs)) ∙ before in
+    any_of_records (λ s. is_same s r) (take (i + 1) recs) ∙ (list_any_more P recs i x below ∙ rw (so_far, here) refl)

@@ -1,0 +1,19 @@
+use Rattle.std.proofs.Common.{sym}
+use Rattle.trial_bench.proofs.Splits.{fields_some, ten_more}
+use Rattle.trial_bench.proofs.text.ten_fields.Goals as goal
+
+pub returns-in-Some : goal.returns-in-Some
+returns-in-Some c =
+    rw (
+      c.in_ok-word.ensures,
+      c.in_ok-imei.ensures,
+      c.in_ok-third.ensures,
+      c.in_ok-fourth.ensures,
+      c.in_ok-fifth.ensures,
+      c.in_ok-sixth.ensures,
+      c.in_ok-seventh.ensures,
+      c.in_ok-eighth.ensures,
+      c.in_ok-ninth.ensures,
+      c.in-Some.ensures,
+    )
+    (sym (ten_more _ _ _ _ _ _ _ _ _ _ _ (fields_some c.in-Some.field-0.1.now)))

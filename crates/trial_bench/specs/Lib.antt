@@ -1,0 +1,11 @@
+pub mod Lines
+pub mod Numbers
+pub mod PlainConnection
+pub mod PlainFrame
+pub mod PlainLines
+pub mod PlainOutcome
+pub mod PlainScript
+pub mod ReadLine
+pub mod ReadScript
+pub mod Texts
+pub mod Tracker
