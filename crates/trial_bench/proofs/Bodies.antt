@@ -4,13 +4,15 @@ use Rattle.std.specs.List.{flat_map, AllByRecursion}
 use Rattle.std.specs.Str.{bytes_eq}
 use Rattle.std.specs.Int.{to_be_bytes, w16}
 use Rattle.std.proofs.lemmas.Bool.{false≢true}
-use Rattle.std.proofs.lemmas.List.{append-nil, length-append, length-map, take_at}
+use Rattle.std.proofs.lemmas.List.{append-nil, length-append, length-map, take_all, take_at}
 use Rattle.std.proofs.lemmas.Nat.{from_be_bytes-to_be_bytes_4}
 use Rattle.std.proofs.lemmas.Slice.Eq.{bytes_eq-Decides}
 use Rattle.avl_values.specs.Record.{Record}
+use Rattle.avl_values.specs.Viewed.{record_of, records_of}
 use Rattle.avl_values.specs.declared.codec.Codec.{Codec}
 use Rattle.avl_values.specs.declared.codec.Codec.TheVariants.{C8}
 use Rattle.avl_values.specs.declared.fault.FaultKind.{FaultKind}
+use Rattle.avl_values.specs.declared.rec.Rec.{Rec}
 use Rattle.crc_field.specs.Crc.{crc_of}
 use Rattle.layout.specs.Rows.{Verdict, whole, fault}
 use Rattle.record_layout.specs.declared.head.PacketHead.{PacketHead}
@@ -35,6 +37,15 @@ pub body_is : (records : List Record) → body_of records ≡ 8 ∷ length recor
 body_is records =
     let F : ℕ → List ℕ → List ℕ = λ n bytes. 8 ∷ n ∷ (bytes ++ n ∷ []) in
     ap (λ n. F n (flat_map (λ (r : List ℕ). r) (bytes_of_each records))) (length-map records (λ r. r.bytes)) ∙ ap (F (length records)) (each_joined records)
+
+-- a body that is written record by record
+pub written : (recs : List Rec) (k n : ℕ) (body out : List ℕ) → length recs ≤ k → n ≡ length recs → body ≡ 8 ∷ length recs ∷ flat_map (λ r. r.bytes) (records_of (take k recs)) → out ≡ body ++ n ∷ []
+    → out ≡ body_of (records_of recs)
+written recs k n body out all count before is =
+    let F : ℕ → List Rec → List ℕ = λ m xs. 8 ∷ m ∷ (flat_map (λ r. r.bytes) (records_of xs) ++ m ∷ []) in
+    let same : length (records_of recs) ≡ length recs = length-map recs record_of in
+    is ∙ (ap (λ b. b ++ n ∷ []) before ∙ (ap (λ m. 8 ∷ length recs ∷ (flat_map (λ r. r.bytes) (records_of (take k recs)) ++ m ∷ [])) count
+    ∙ (ap (F (length recs)) (take_all k recs all) ∙ (ap (λ m. F m recs) (sym same) ∙ sym (body_is (records_of recs))))))
 
 joined_length : (records : List Record) → ArePlain records → length (flat_map (λ r. r.bytes) records) ≡ 30 * length records
 joined_length [] h = refl
@@ -101,8 +112,8 @@ no_fault kind place n head e = false≢true (ap is_whole e)
 pub same_head : (h k : PacketHead) (m n : ℕ) → ◌≡◌ {A = Verdict PacketHead} (whole h m) (whole k n) → h ≡ k
 same_head h k m n e = cc
 
-pub not_other : (whole frame : List ℕ) (r : Bool) → whole ≡ frame → r ≡ not (bytes_eq whole frame) → r ≡ true → ⊥
-not_other whole frame r e is h =
-    let same = same_bytes whole frame e in
+pub not_other : (xs frame : List ℕ) (r : Bool) → xs ≡ frame → r ≡ not (bytes_eq xs frame) → r ≡ true → ⊥
+not_other xs frame r e is h =
+    let same = same_bytes xs frame e in
     let k = rw same at is in
     false≢true (sym k ∙ h)

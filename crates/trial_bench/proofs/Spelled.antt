@@ -1,6 +1,6 @@
 -- The record of a fix is the spelling of its value in Codec 8.
 use Rattle.std.proofs.Common.{◌≡◌, ℕ, ◌+◌, ◌<◌, ◌^◌, List, [], ◌∷◌, ◌++◌, length, refl, ap, FitsSigned, arith}
-use Rattle.std.specs.Int.{byte_at, cast_unsigned, of_z, to_be_bytes, w16, w32, w64}
+use Rattle.std.specs.Int.{byte_at, cast_unsigned, to_be_bytes, w16, w32, w64}
 use Rattle.std.proofs.Math.Facts.{Fits-of_z, Fits-lt-pow}
 use Rattle.avl_values.specs.RecordValue.{RecordValue}
 use Rattle.avl_values.specs.declared.codec.Codec.TheVariants.{C8}

@@ -1,0 +1,4 @@
+pub mod Together
+pub mod SettingLaws
+pub mod DraftLaws
+pub mod FiringLaws

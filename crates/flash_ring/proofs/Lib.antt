@@ -1,0 +1,9 @@
+pub mod Closes
+pub mod Entries
+pub mod Formats
+pub mod Loads
+pub mod Ranks
+pub mod Rings
+pub mod Slots
+pub mod Stores
+pub mod Writes

@@ -1,0 +1,11 @@
+use Rattle.std.proofs.Common.{length, take}
+use Rattle.medium.specs.State.{Counted}
+use Rattle.flash_ring.proofs.Closes.{Shut}
+use Rattle.flash_ring.proofs.close.close_slots.Given as goal
+
+abbrev pub invariant-loop-slot : goal.invariant-loop-slot
+invariant-loop-slot g l =
+    record {
+      counted : Counted l.slot-index (g.M.Medium.state l.initial.medium) (g.M.Medium.state l.medium) ⊥;
+      shut : Shut (length l.held) l.held (take l.slot-index l.slots) (g.M.Medium.state l.initial.medium).content (g.M.Medium.state l.medium).content;
+    }

@@ -1,0 +1,53 @@
+-- The ring is what the four calls left.
+use Rattle.std.proofs.Common.{◌≡◌, ◌+◌, ◌*◌, ◌≤◌, ◌∙◌, List, length, set, Option, Some, None, ap, sym, subst, refl, arith, mul-le-mul_left}
+use Rattle.std.proofs.lemmas.Option.{slice_get_within}
+use Rattle.avl_values.specs.Record.{Record}
+use Rattle.record_codecs.specs.SomeRecord.{IsSomeRecord}
+use Rattle.avl_values.specs.Viewed.{record_of}
+use Rattle.medium.specs.State.{IfTold}
+use Rattle.flash_ring.specs.Held.{Held, put_in}
+use Rattle.flash_ring.specs.Images.{IsEither, IsSettled}
+use Rattle.flash_ring.specs.Ring.{RingView, EachHolds}
+use Rattle.flash_ring.proofs.Rings.{passed, closed-there, either_up, durable_up, ring-stored}
+use Rattle.flash_ring.proofs.ring.Ring.put.Goals as goal
+
+pub returns-then-self-clause-images : goal.returns-then-self-clause-images
+returns-then-self-clause-images g c =
+    let h : Held = record { seq = c.args.self.now.next; rec = record_of c.args.rec.now } in
+    let P : RingView → Type 0 = λ v. EachHolds v (IsEither v.slots (put_in v.slots h)) in
+    subst P c.self.view_is (either_up _ _ (c.self.invariant.up (ap (λ (v : RingView). v.down) c.self.view_is ∙ c.requires.up)))
+
+pub store-requires-clause-ready : goal.store-requires-clause-ready
+store-requires-clause-ready g c =
+    let closed = closed-there c.self.inside.slots.items c.deref.result.now c.self.inside.slots.items c.in-Some.slot c.deref.ensures.value refl c.in-Some.ensures.first c.in-Some.ensures.room in
+    let low = slice_get_within c.self.inside.slots.items c.in-Some.slot None closed in
+    let m : 272 * (c.in-Some.slot + 1) ≤ 272 * length c.self.inside.slots.items = mul-le-mul_left 272 (omega arith) in
+    omega (arith, m, c.self.invariant.ready)
+
+pub store-requires-clause-closed : goal.store-requires-clause-closed
+store-requires-clause-closed g c =
+    closed-there c.self.inside.slots.items c.deref.result.now c.deref-2.result.now c.in-Some.slot c.deref.ensures.value c.deref-2.ensures.value c.in-Some.ensures.first c.in-Some.ensures.room
+
+pub index_mut-requires : goal.index_mut-requires
+index_mut-requires g c =
+    let closed = closed-there c.self.inside.slots.items c.deref.result.now c.self.inside.slots.items c.in-Some.slot c.deref.ensures.value refl c.in-Some.ensures.first c.in-Some.ensures.room in
+    let low = slice_get_within c.self.inside.slots.items c.in-Some.slot None closed in
+    omega (arith, c.self.inside.slots.ok.0)
+
+pub invariant_of-self-2 : goal.invariant_of-self-2
+invariant_of-self-2 g c =
+    let up = ap (λ (v : RingView). v.down) c.self.view_is ∙ c.requires.up in
+    let Q : Record → Type 0 = λ r. IsSomeRecord r.codec r.bytes in
+    let h : Held = record { seq = c.self.inside.next; rec = record_of c.copy.result } in
+    let P : List (Option Held) → Type 0 = λ s. IfTold (g.M.Medium.state c.store.new.medium).content (IsSettled (length s) (set s c.in-Some.slot (Some h))) in
+    ring-stored _ _ c.in-Some.slot _ c.self.invariant up refl c.if-self.false (omega arith, subst Q (sym c.copy.ensures) c.requires.is_record) c.store.ensures.counted.ready
+      (subst P c.deref-2.ensures.value (passed c.store.result c.is_err.result c.is_err.ensures.value c.if-is_err.false c.store.ensures.settled))
+
+pub returns-clause-durable : goal.returns-clause-durable
+returns-clause-durable g c =
+    let up = ap (λ (v : RingView). v.down) c.self.view_is ∙ c.requires.up in
+    let Q : Record → Type 0 = λ r. IsSomeRecord r.codec r.bytes in
+    let h : Held = record { seq = c.self.inside.next; rec = record_of c.copy.result } in
+    let P : List (Option Held) → Type 0 = λ s. IfTold (g.M.Medium.state c.store.new.medium).content (IsSettled (length s) (set s c.in-Some.slot (Some h))) in
+    durable_up _ ((ring-stored _ _ c.in-Some.slot _ c.self.invariant up refl c.if-self.false (omega arith, subst Q (sym c.copy.ensures) c.requires.is_record) c.store.ensures.counted.ready
+      (subst P c.deref-2.ensures.value (passed c.store.result c.is_err.result c.is_err.ensures.value c.if-is_err.false c.store.ensures.settled))).up up) up

@@ -1,0 +1,3 @@
+pub mod ConnectionRows
+pub mod DeviceRows
+pub mod Lines
