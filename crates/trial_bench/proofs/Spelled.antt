@@ -1,11 +1,10 @@
 -- The record of a fix is the spelling of its value in Codec 8.
-use Rattle.std.proofs.Common.{◌≡◌, ℕ, ◌+◌, ◌<◌, ◌^◌, List, [], ◌∷◌, ◌++◌, length, refl, ap, FitsSigned, arith}
+use Rattle.std.proofs.Common.{◌≡◌, ℕ, ◌<◌, ◌^◌, List, [], ◌∷◌, ◌++◌, refl, ap, arith}
 use Rattle.std.specs.Int.{byte_at, cast_unsigned, to_be_bytes, w16, w32, w64}
 use Rattle.std.proofs.Math.Facts.{Fits-of_z, Fits-lt-pow}
 use Rattle.avl_values.specs.RecordValue.{RecordValue}
 use Rattle.avl_values.specs.declared.codec.Codec.TheVariants.{C8}
-use Rattle.record_layout.specs.Spelling.{AllFit, IsRecord, part_values, spelled}
-use Rattle.record_layout.specs.SomeRecord.{IsSomeRecord}
+use Rattle.record_layout.specs.Spelling.{AllFit, part_values, spelled}
 use Rattle.record_layout.specs.Table.{parts_of}
 use Rattle.trial_model.specs.Acquisition.{bytes_of, gps_bytes}
 use Rattle.trial_model.specs.declared.fix.Fix.{Fix}
@@ -36,8 +35,8 @@ spelled_is : (fix : Fix) → fix.gps.satellites < 2 ^ 8 → bytes_of fix ≡ spe
 unfolding bytes_of gps_bytes value_of
 spelled_is fix small =
     let F : ℕ → List ℕ = λ s.
-        to_be_bytes w64 fix.time ++ (0 ∷ (to_be_bytes w32 (cast_unsigned w32 fix.gps.longitude) ++ (to_be_bytes w32 (cast_unsigned w32 fix.gps.latitude)
-        ++ (to_be_bytes w16 (cast_unsigned w16 fix.gps.altitude) ++ (to_be_bytes w16 fix.gps.angle ++ (s ∷ to_be_bytes w16 fix.gps.speed)))) ++ 0 ∷ 0 ∷ 0 ∷ 0 ∷ 0 ∷ 0 ∷ [])) in
+    to_be_bytes w64 fix.time ++ (0 ∷ (to_be_bytes w32 (cast_unsigned w32 fix.gps.longitude) ++ (to_be_bytes w32 (cast_unsigned w32 fix.gps.latitude)
+    ++ (to_be_bytes w16 (cast_unsigned w16 fix.gps.altitude) ++ (to_be_bytes w16 fix.gps.angle ++ (s ∷ to_be_bytes w16 fix.gps.speed)))) ++ 0 ∷ 0 ∷ 0 ∷ 0 ∷ 0 ∷ 0 ∷ [])) in
     let e : fix.gps.satellites ≡ byte_at 0 fix.gps.satellites = omega arith in
     ap F e
 

@@ -1,5 +1,5 @@
 -- The numbers of a fix's position fit the fields of its record.
-use Rattle.std.specs.Prelude.{ℕ, ◌<◌, ◌^◌, FitsSigned}
+use Rattle.std.specs.Prelude.{◌<◌, ◌^◌, FitsSigned}
 use Rattle.std.specs.Int.{w16, w32}
 use Rattle.avl_values.specs.declared.gps.Gps.{Gps}
 

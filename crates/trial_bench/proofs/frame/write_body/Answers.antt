@@ -1,4 +1,4 @@
-use Rattle.std.proofs.Common.{◌≡◌, ◌∷◌, [], ◌++◌, length, refl}
+use Rattle.std.proofs.Common.{length, refl}
 use Rattle.trial_bench.proofs.Bodies.{written}
 use Rattle.trial_bench.proofs.frame.write_body.Goals as goal
 

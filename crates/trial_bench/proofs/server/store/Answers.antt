@@ -1,4 +1,4 @@
-use Rattle.std.proofs.Common.{◌≡◌, ℕ, List, fold, sym, ap, ◌∙◌}
+use Rattle.std.proofs.Common.{fold, ap, ◌∙◌}
 use Rattle.record_codecs.specs.Views.{records_left}
 use Rattle.trial_model.specs.RecordLists.{add_once}
 use Rattle.trial_bench.specs.PlainFrame.{records_with}
@@ -10,7 +10,8 @@ loop-bytes-init c = λ rs packet.
 
 pub loop-bytes-preserved : goal.loop-bytes-preserved
 loop-bytes-preserved c = λ rs packet.
-    rw c.in_ok-add_wide_once.ensures (sym (ap (λ xs. fold add_once c.loop-bytes.archive.now (records_with c.args.codec xs)) c.in-Some.ensures.steps) ∙ c.loop-bytes.invariant rs packet)
+    let h = rw c.in-Some.ensures.steps at (c.loop-bytes.invariant rs packet) in
+    rw c.in_ok-add_wide_once.ensures h
 
 pub returns : goal.returns
-returns c = λ rs packet. sym (ap (λ xs. fold add_once c.loop-bytes.archive.now (records_with c.args.codec xs)) c.in-None.ensures.steps.0) ∙ c.loop-bytes.invariant rs packet
+returns c = λ rs packet. rw c.in-None.ensures.steps.0 at (c.loop-bytes.invariant rs packet)

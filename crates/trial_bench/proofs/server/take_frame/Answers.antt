@@ -6,7 +6,6 @@ use Rattle.trial_bench.specs.PlainFrame.{records_with}
 use Rattle.trial_bench.proofs.Bodies.{no_fault, not_other, same_frame, same_head, same_packet, same_verdict}
 use Rattle.trial_bench.proofs.server.take_frame.Goals as goal
 
-
 pub returns-then-ne-clause-counted : goal.returns-then-ne-clause-counted
 returns-then-ne-clause-counted c = λ codec rs f.
     let same = same_frame codec rs c.args.frame.now c.body_in-body.result.now f c.body_in-body.ensures in
