@@ -1,6 +1,6 @@
 -- Bodies of packets, and the frames round them.
-use Rattle.std.proofs.Common.{◌≡◌, ℕ, ◌*◌, ◌^◌, ◌<◌, ◌≤◌, not, Bool, true, List, [], ◌∷◌, ◌++◌, length, take, refl, sym, ap, subst, ◌∙◌, arith}
-use Rattle.std.specs.List.{flat_map, AllByRecursion}
+use Rattle.std.proofs.Common.{◌≡◌, ℕ, ◌*◌, ◌^◌, ◌<◌, ◌≤◌, not, nat_eq, Bool, true, false, List, [], ◌∷◌, ◌++◌, length, take, refl, sym, ap, subst, ◌∙◌, arith}
+use Rattle.std.specs.List.{flat_map, starts_with, AllByRecursion}
 use Rattle.std.specs.Str.{bytes_eq}
 use Rattle.std.specs.Int.{to_be_bytes, w16}
 use Rattle.std.proofs.lemmas.Bool.{false≢true}
@@ -20,7 +20,7 @@ use Rattle.record_layout.specs.Packet.{IsPacket, packet_bytes}
 use Rattle.record_layout.specs.PacketRows.{packet_verdict}
 use Rattle.record_layout.specs.SomeRecord.{IsSomeRecord}
 use Rattle.record_layout.proofs.ReadLaws.{packet_whole_verdict}
-use Rattle.trial_model.specs.Frames.{body_at, frame_of, is_whole}
+use Rattle.trial_model.specs.Frames.{body_at, frame_of, has_frame, is_packet, is_whole}
 use Rattle.trial_bench.specs.PlainFrame.{ArePlain, IsFrame, body_of, bytes_of_each, records_with}
 
 -- plain records, one list behind the other
@@ -74,6 +74,10 @@ is_frame records h some few =
       small = omega (arith, body_small records h few);
     }
 
+is_not : (b : Bool) → not b ≡ false → b ≡ true
+is_not true h = refl
+is_not false h = absurd (false≢true (sym h))
+
 same_bytes : (xs ys : List ℕ) → xs ≡ ys → bytes_eq xs ys ≡ true
 same_bytes xs ys e = (bytes_eq-Decides xs ys).1 e
 
@@ -105,6 +109,19 @@ pub same_verdict : (codec : Codec) (records : List (List ℕ)) (frame got : List
     → packet_verdict (length got) got ≡ whole (record { codec = codec; count = length records }) (length got)
 same_verdict codec records frame got f told =
     ap (packet_verdict (length got)) (sym (append-nil got)) ∙ packet_whole_verdict codec records got [] (same_packet codec records frame got f told)
+
+-- A frame that is accepted lies whole at its own front, as every trial reads it.
+pub accepted : (frame got : List ℕ) (head : PacketHead) (n : ℕ) → got ≡ body_at frame → whole head n ≡ packet_verdict (length got) got → frame_of got ≡ frame → has_frame frame ≡ true
+accepted frame got head n told judged is =
+    let packet : is_packet (body_at frame) ≡ true = ap is_packet (sym told) ∙ sym (ap is_whole judged) in
+    let same : frame_of (body_at frame) ≡ frame = ap frame_of (sym told) ∙ is in
+    let begins : starts_with nat_eq frame (frame_of (body_at frame)) ≡ true = ap (starts_with nat_eq frame) same ∙ (ap (bytes_eq frame) (take_all (length frame) frame (omega arith)) ∙ same_bytes frame frame refl) in
+    rw (packet, begins) refl
+
+pub same_if_equal : (xs frame : List ℕ) (r : Bool) → r ≡ not (bytes_eq xs frame) → r ≡ false → xs ≡ frame
+same_if_equal xs frame r is h =
+    let e : bytes_eq xs frame ≡ true = is_not (bytes_eq xs frame) (sym is ∙ h) in
+    (bytes_eq-Decides xs frame).0 e
 
 pub no_fault : (kind : FaultKind) (place n : ℕ) (head : PacketHead) → ◌≡◌ {A = Verdict PacketHead} (fault kind place) (whole head n) → ⊥
 no_fault kind place n head e = false≢true (ap is_whole e)

@@ -1,10 +1,10 @@
-ghost use Rattle.std.specs.Prelude.{◌≡◌, ℕ, List, Some, length, IfOk, OnOk, if◌then◌else◌};
+ghost use Rattle.std.specs.Prelude.{◌≡◌, ℕ, List, Some, true, length, IfOk, IsNone, IsSome, OnOk, if◌then◌else◌};
 ghost use Rattle.std.specs.List.{fold};
 ghost use Rattle.std.specs.Str.{bytes_eq};
 ghost use Rattle.avl_values.specs.declared.codec.Codec.{Codec as CodecOf};
 ghost use Rattle.record_layout.specs.Packet.{IsPacket};
 ghost use Rattle.trial_bench.specs.PlainFrame.{IsFrame, records_with};
-ghost use Rattle.trial_model.specs.Frames.{login_of};
+ghost use Rattle.trial_model.specs.Frames.{has_frame, login_of};
 ghost use Rattle.trial_model.specs.RecordLists.{add_once};
 
 use crate::frame::{body_in, write_frame, write_login};
@@ -41,8 +41,12 @@ pub fn take_frame(
     archive: &mut WideList,
     frame: &[u8],
 ) -> Result<Option<u8>, NoMemory>
+    // It is counted only where it lies whole at the front, as every trial reads it;
+    ensures whole { IfOk result (λ count. IsSome count → has_frame frame.now ≡ true) }
+    // and the frame of a data body is counted, with its records archived.
     ensures counted { IfOk result (λ count. (codec : CodecOf) (rs : List (List ℕ)) → IsFrame codec rs frame.now → count ≡ Some (length rs)) }
     ensures archived { OnOk result ((codec : CodecOf) (rs : List (List ℕ)) → IsFrame codec rs frame.now → archive.new ≡ fold add_once archive.old (records_with codec rs)) }
+    ensures unchanged { IfOk result (λ count. IsNone count → archive.new ≡ archive.old) }
 {
     let body = body_in(frame);
     if body.len() > LONGEST_BODY {

@@ -1,3 +1,4 @@
 pub mod ConnectionRows
 pub mod DeviceRows
+pub mod FrameRows
 pub mod Lines

@@ -3,7 +3,7 @@ use Rattle.record_layout.specs.declared.head.PacketHead.{PacketHead}
 use Rattle.record_layout.specs.Packet.{IsPacket}
 use Rattle.trial_model.specs.RecordLists.{add_once}
 use Rattle.trial_bench.specs.PlainFrame.{records_with}
-use Rattle.trial_bench.proofs.Bodies.{no_fault, not_other, same_frame, same_head, same_packet, same_verdict}
+use Rattle.trial_bench.proofs.Bodies.{accepted, no_fault, not_other, same_frame, same_head, same_if_equal, same_packet, same_verdict}
 use Rattle.trial_bench.proofs.server.take_frame.Goals as goal
 
 pub returns-then-ne-clause-counted : goal.returns-then-ne-clause-counted
@@ -35,3 +35,8 @@ returns-in_ok-store-in-Ok-clause-archived c = λ codec rs f.
     let is : c.in-Ok.head.codec ≡ codec = ap (λ (h : PacketHead). h.codec) head in
     let packet = same_packet codec rs c.args.frame.now c.body_in-body.result.now f c.body_in-body.ensures in
     c.in_ok-store-in-Ok.ensures rs (subst (λ d. IsPacket d rs c.body_in-body.result.now) (sym is) packet) ∙ ap (λ d. fold add_once c.args.archive.now (records_with d rs)) is
+
+pub returns-in_ok-store-in-Ok-clause-whole : goal.returns-in_ok-store-in-Ok-clause-whole
+returns-in_ok-store-in-Ok-clause-whole c = λ _.
+    let same = same_if_equal c.as_slice.result.now c.args.frame.now c.ne.result c.ne.ensures c.if-ne.false in
+    accepted c.args.frame.now c.body_in-body.result.now c.in-Ok.head _ c.body_in-body.ensures c.in-Ok.ensures (sym (c.as_slice.ensures.value ∙ c.in_ok-whole-in-Ok.ensures) ∙ same)
