@@ -1,5 +1,5 @@
 -- The device takes its fixes one after the other.
-use Rattle.std.proofs.Common.{◌≡◌, ◌+◌, ◌<◌, ◌≤◌, ℕ, Bool, true, false, List, [], ◌∷◌, ◌++◌, length, get_or, drop, fold, Option, Some, refl, sym, ap, ◌∙◌, append_assoc, arith}
+use Rattle.std.proofs.Common.{◌≡◌, ◌+◌, ◌<◌, ◌≤◌, ℕ, Bool, true, false, List, [], ◌∷◌, ◌++◌, length, get_or, drop, fold, Option, Some, refl, sym, ap, subst, ◌∙◌, append_assoc, arith}
 use Rattle.std.proofs.lemmas.List.{append-nil, drop_all, drop_more}
 use Rattle.std.proofs.lemmas.List.Sums.{fold-append}
 use Rattle.avl_values.specs.Record.{Record}
@@ -9,7 +9,7 @@ use Rattle.trial_bench.specs.PlainOutcome.{made_from}
 use Rattle.trial_bench.specs.Tracker.{TakesFix, due_by, is_due_now, made_of}
 use Rattle.trial_bench.specs.declared.plain_script.NumberedFix.{NumberedFix}
 use Rattle.trial_bench.specs.declared.tracker.PlainTracker.{PlainTracker}
-use Rattle.trial_bench.proofs.Bodies.{made_plain}
+use Rattle.trial_bench.proofs.Bodies.{plain_append}
 
 made_first : (old new : PlainTracker) (f : NumberedFix) (fs : List NumberedFix) (due : Bool) → is_due_now old f.fix ≡ due → TakesFix old f.fix new
     → made_from old.period old.last (f ∷ fs) ≡ made_of old f.fix ++ made_from new.period new.last fs
@@ -40,15 +40,8 @@ made_all t fs i all past h =
     let k = rw (drop_all i fs past) at h in
     sym (append-nil t.flash) ∙ k
 
-made_one : (period : ℕ) (last : Option ℕ) (f : NumberedFix) (fs : List NumberedFix) (due : Bool) → due_by period last f.fix.time ≡ due → ((last : Option ℕ) → ArePlain (made_from period last fs)) → ArePlain (made_from period last (f ∷ fs))
-unfolding made_from
-made_one period last f fs true e more = rw e ((refl, made_plain f.fix), more (Some f.fix.time))
-made_one period last f fs false e more = rw e (more last)
-
-pub made_are_plain : (period : ℕ) (last : Option ℕ) (fs : List NumberedFix) → ArePlain (made_from period last fs)
-unfolding made_from
-made_are_plain period last [] = tt
-made_are_plain period last (f ∷ fs) = made_one period last f fs (due_by period last f.fix.time) refl (λ last. made_are_plain period last fs)
+pub plain_step : (old new : PlainTracker) (f : NumberedFix) → TakesFix old f.fix new → ArePlain old.flash → ArePlain new.flash
+plain_step old new f took h = subst ArePlain (sym took.flash) (plain_append old.flash (made_of old f.fix) h took.plain)
 
 one_more_made : (period : ℕ) (last : Option ℕ) (f : NumberedFix) (fs : List NumberedFix) (due : Bool) → due_by period last f.fix.time ≡ due → ((last : Option ℕ) → length (made_from period last fs) ≤ length fs)
     → length (made_from period last (f ∷ fs)) ≤ length (f ∷ fs)

@@ -1,108 +1,81 @@
 -- Bodies of packets, and the frames round them.
-use Rattle.std.proofs.Common.{◌≡◌, ◌==◌, ℕ, zero, suc, ◌+◌, ◌*◌, ◌-◌, ◌^◌, ◌<◌, ◌≤◌, ◌&&◌, nat_le, not, Bool, true, false, List, [], ◌∷◌, ◌++◌, map, length, take, drop, refl, sym, ap, ◌∙◌, sub-one, arith}
-use Rattle.std.specs.List.{flat_map, list_all}
+use Rattle.std.proofs.Common.{◌≡◌, ℕ, ◌*◌, ◌^◌, ◌<◌, ◌≤◌, not, Bool, true, List, [], ◌∷◌, ◌++◌, length, take, refl, sym, ap, subst, ◌∙◌, arith}
+use Rattle.std.specs.List.{flat_map, AllByRecursion}
 use Rattle.std.specs.Str.{bytes_eq}
 use Rattle.std.specs.Int.{to_be_bytes, w16}
-use Rattle.std.proofs.lemmas.Bool.{eq-eqb, eqb-true, false≢true}
-use Rattle.std.proofs.lemmas.Bool.Decides.{nat_tests}
-use Rattle.std.proofs.lemmas.List.{append_assoc, drop_at, length-append, take_at}
+use Rattle.std.proofs.lemmas.Bool.{false≢true}
+use Rattle.std.proofs.lemmas.List.{append-nil, length-append, length-map, take_all, take_at}
 use Rattle.std.proofs.lemmas.Nat.{from_be_bytes-to_be_bytes_4}
 use Rattle.std.proofs.lemmas.Slice.Eq.{bytes_eq-Decides}
 use Rattle.avl_values.specs.Record.{Record}
+use Rattle.avl_values.specs.Viewed.{record_of, records_of}
+use Rattle.avl_values.specs.declared.codec.Codec.{Codec}
+use Rattle.avl_values.specs.declared.codec.Codec.TheVariants.{C8}
+use Rattle.avl_values.specs.declared.fault.FaultKind.{FaultKind}
+use Rattle.avl_values.specs.declared.rec.Rec.{Rec}
 use Rattle.crc_field.specs.Crc.{crc_of}
-use Rattle.plain_records.specs.PlainBody.{count_of, is_plain_body, pieces, plain_record, records_of}
-use Rattle.plain_records.specs.SomeRecord.{is_plain_record}
-use Rattle.trial_model.specs.Acquisition.{bytes_of, gps_bytes}
-use Rattle.trial_model.specs.Frames.{body_at, frame_of}
-use Rattle.trial_model.specs.declared.fix.Fix.{Fix}
-use Rattle.trial_bench.specs.PlainFrame.{ArePlain, body_of}
+use Rattle.layout.specs.Rows.{Verdict, whole, fault}
+use Rattle.record_layout.specs.declared.head.PacketHead.{PacketHead}
+use Rattle.record_layout.specs.Packet.{IsPacket, packet_bytes}
+use Rattle.record_layout.specs.PacketRows.{packet_verdict}
+use Rattle.record_layout.specs.SomeRecord.{IsSomeRecord}
+use Rattle.record_layout.proofs.ReadLaws.{packet_whole_verdict}
+use Rattle.trial_model.specs.Frames.{body_at, frame_of, is_whole}
+use Rattle.trial_bench.specs.PlainFrame.{ArePlain, IsFrame, body_of, bytes_of_each, records_with}
 
-pub both : (a b : Bool) → (a && b) ≡ true → (a ≡ true) × (b ≡ true)
-both true true h = (refl, refl)
-both true false h = absurd (false≢true h)
-both false b h = absurd (false≢true h)
+-- plain records, one list behind the other
+pub plain_append : (records more : List Record) → ArePlain records → ArePlain more → ArePlain (records ++ more)
+plain_append [] more h k = k
+plain_append (r ∷ rs) more h k = (h.0, plain_append rs more h.1 k)
 
-pub made_plain : (fix : Fix) → is_plain_record (bytes_of fix) ≡ true
-unfolding bytes_of gps_bytes
-made_plain fix = refl
+-- a body by the bytes of its records
+each_joined : (records : List Record) → flat_map (λ (r : List ℕ). r) (bytes_of_each records) ≡ flat_map (λ r. r.bytes) records
+each_joined [] = refl
+each_joined (r ∷ rs) = ap (λ xs. r.bytes ++ xs) (each_joined rs)
 
--- pieces, one after the other
-pub pieces_some : (n : ℕ) (xs : List ℕ) → 0 < n → pieces n xs ≡ take 30 xs ∷ pieces (n - 1) (drop 30 xs)
-unfolding pieces
-pieces_some zero xs h = absurd (omega arith)
-pieces_some (suc n) xs h = rw sub-one refl
+pub body_is : (records : List Record) → body_of records ≡ 8 ∷ length records ∷ (flat_map (λ r. r.bytes) records ++ length records ∷ [])
+body_is records =
+    let F : ℕ → List ℕ → List ℕ = λ n bytes. 8 ∷ n ∷ (bytes ++ n ∷ []) in
+    ap (λ n. F n (flat_map (λ (r : List ℕ). r) (bytes_of_each records))) (length-map records (λ r. r.bytes)) ∙ ap (F (length records)) (each_joined records)
 
-pub pieces_none : (xs : List ℕ) → pieces 0 xs ≡ []
-unfolding pieces
-pieces_none xs = refl
+-- a body that is written record by record
+pub written : (recs : List Rec) (k n : ℕ) (body out : List ℕ) → length recs ≤ k → n ≡ length recs → body ≡ 8 ∷ length recs ∷ flat_map (λ r. r.bytes) (records_of (take k recs)) → out ≡ body ++ n ∷ []
+    → out ≡ body_of (records_of recs)
+written recs k n body out all count before is =
+    let F : ℕ → List Rec → List ℕ = λ m xs. 8 ∷ m ∷ (flat_map (λ r. r.bytes) (records_of xs) ++ m ∷ []) in
+    let same : length (records_of recs) ≡ length recs = length-map recs record_of in
+    is ∙ (ap (λ b. b ++ n ∷ []) before ∙ (ap (λ m. 8 ∷ length recs ∷ (flat_map (λ r. r.bytes) (records_of (take k recs)) ++ m ∷ [])) count
+    ∙ (ap (F (length recs)) (take_all k recs all) ∙ (ap (λ m. F m recs) (sym same) ∙ sym (body_is (records_of recs))))))
 
--- the length of a plain record, and of many
-plain_length : (bytes : List ℕ) → is_plain_record bytes ≡ true → length bytes ≡ 30
-plain_length bytes h = eqb-true (length bytes) 30 (both _ _ h).0
+joined_length : (records : List Record) → ArePlain records → length (flat_map (λ r. r.bytes) records) ≡ 30 * length records
+joined_length [] h = refl
+joined_length (r ∷ rs) h = omega (arith, length-append r.bytes (flat_map (λ x. x.bytes) rs), h.0.size, joined_length rs h.1)
 
-pub records_length : (records : List Record) → ArePlain records → length (flat_map (λ r. r.bytes) records) ≡ 30 * length records
-records_length [] h = refl
-records_length (r ∷ rs) h = omega (arith, length-append r.bytes (flat_map (λ x. x.bytes) rs), plain_length r.bytes h.0.1, records_length rs h.1)
+-- a body of at most 255 plain records has at most 7,653 bytes
+pub body_small : (records : List Record) → ArePlain records → length records ≤ 255 → length (body_of records) ≤ 7653
+body_small records h few =
+    omega (arith, ap length (body_is records), length-append (flat_map (λ r. r.bytes) records) (length records ∷ []), joined_length records h)
 
--- records that are joined are cut again
-pub pieces_joined : (records : List Record) (rest : List ℕ) → ArePlain records → pieces (length records) (flat_map (λ r. r.bytes) records ++ rest) ≡ map (λ r. r.bytes) records
-unfolding pieces
-pieces_joined [] rest h = refl
-pieces_joined (r ∷ rs) rest h =
-    let tail = flat_map (λ x. x.bytes) rs ++ rest in
-    let joined = append_assoc r.bytes (flat_map (λ x. x.bytes) rs) rest in
-    let size = plain_length r.bytes h.0.1 in
-    rw (joined, take_at r.bytes tail 30 size, drop_at r.bytes tail 30 size, pieces_joined rs rest h.1) refl
-
-all_plain : (records : List Record) → ArePlain records → list_all is_plain_record (map (λ r. r.bytes) records) ≡ true
-all_plain [] h = refl
-all_plain (r ∷ rs) h = rw (h.0.1, all_plain rs h.1) refl
-
-same_records : (records : List Record) → ArePlain records → map plain_record (map (λ r. r.bytes) records) ≡ records
+pub same_records : (records : List Record) → ArePlain records → records_with C8 (bytes_of_each records) ≡ records
 same_records [] h = refl
-same_records (r ∷ rs) h = ap (λ x. x ∷ map plain_record (map (λ r. r.bytes) rs)) (sym h.0.0) ∙ ap (λ xs. r ∷ xs) (same_records rs h.1)
+same_records (r ∷ rs) h = ap (λ x. x ∷ records_with C8 (bytes_of_each rs)) (sym h.0.codec) ∙ ap (λ xs. r ∷ xs) (same_records rs h.1)
 
-pub body_records : (records : List Record) → ArePlain records → records_of (body_of records) ≡ records
-body_records records h = ap (map plain_record) (pieces_joined records (length records ∷ []) h) ∙ same_records records h
+all_some : (records : List Record) → ArePlain records → AllByRecursion (IsSomeRecord C8) (bytes_of_each records)
+all_some [] h = tt
+all_some (r ∷ rs) h = (h.0.some, all_some rs h.1)
+
+-- the frame of plain records
+pub is_frame : (records : List Record) → ArePlain records → 0 < length records → length records ≤ 255 → IsFrame C8 (bytes_of_each records) (frame_of (body_of records))
+is_frame records h some few =
+    let n = length-map records (λ r. r.bytes) in
+    record {
+      is = refl;
+      packet = record { is = refl; each = all_some records h; some = omega (arith, n); few = omega (arith, n) };
+      small = omega (arith, body_small records h few);
+    }
 
 same_bytes : (xs ys : List ℕ) → xs ≡ ys → bytes_eq xs ys ≡ true
 same_bytes xs ys e = (bytes_eq-Decides xs ys).1 e
-
-body_size : (records : List Record) → ArePlain records → length (body_of records) ≡ 30 * length records + 3
-body_size records h = omega (arith, length-append (flat_map (λ r. r.bytes) records) (length records ∷ []), records_length records h)
-
-body_last : (records : List Record) → ArePlain records → drop (30 * length records + 2) (body_of records) ≡ length records ∷ []
-body_last records h =
-    let e : 30 * length records + 2 ≡ suc (suc (30 * length records)) = omega arith in
-    rw e (drop_at (flat_map (λ r. r.bytes) records) (length records ∷ []) (30 * length records) (records_length records h))
-
-pub body_is_plain : (records : List Record) → ArePlain records → 1 ≤ length records → length records ≤ 255 → is_plain_body (body_of records) ≡ true
-body_is_plain records h some few =
-    let n = length records in
-    let a : nat_le 1 n ≡ true = grind (arith, nat_tests) in
-    let b : nat_le n 255 ≡ true = grind (arith, nat_tests) in
-    let c : (length (body_of records) == 30 * n + 3) ≡ true = eq-eqb _ _ (body_size records h) in
-    let d : bytes_eq (8 ∷ n ∷ []) (8 ∷ n ∷ []) ≡ true = same_bytes (8 ∷ n ∷ []) (8 ∷ n ∷ []) refl in
-    let e : list_all is_plain_record (pieces n (flat_map (λ r. r.bytes) records ++ n ∷ [])) ≡ true = ap (list_all is_plain_record) (pieces_joined records (n ∷ []) h) ∙ all_plain records h in
-    let f : bytes_eq (drop (30 * n + 2) (body_of records)) (n ∷ []) ≡ true = same_bytes _ _ (body_last records h) in
-    rw (a, b, c, d, e, f) refl
-
--- a body that is one has at most 7,653 bytes
-pub body_bound : (body : List ℕ) → is_plain_body body ≡ true → length body ≤ 7653
-body_bound body h =
-    let n = count_of body in
-    let few_is : Bool = nat_le 1 n && nat_le n 255 in
-    let size_is : Bool = length body == 30 * n + 3 in
-    let head_is : Bool = bytes_eq (take 2 body) (8 ∷ n ∷ []) in
-    let rest_is : Bool = list_all is_plain_record (pieces n (drop 2 body)) && bytes_eq (drop (30 * n + 2) body) (n ∷ []) in
-    let sized = (both (few_is && size_is) head_is (both (few_is && size_is && head_is) rest_is h).0).0 in
-    let size = eqb-true (length body) (30 * n + 3) (both few_is size_is sized).1 in
-    let few = (both (nat_le 1 n) (nat_le n 255) (both few_is size_is sized).0).1 in
-    let bound : n ≤ 255 = grind (arith, nat_tests) in
-    omega (arith, size, bound)
-
-pub body_small : (records : List Record) → ArePlain records → length records ≤ 255 → length (body_of records) ≤ 7653
-body_small records h few = omega (arith, body_size records h)
 
 -- the body of its frame
 pub frame_body : (body : List ℕ) → length body < 2 ^ 32 → body_at (frame_of body) ≡ body
@@ -111,15 +84,36 @@ frame_body body h =
     let tail = 0 ∷ 0 ∷ to_be_bytes w16 (crc_of body) in
     rw size (take_at body tail (length body) refl)
 
--- what a frame's length field tells is its body, and so the frame is that of this body
-pub same_frame : (frame body got : List ℕ) → frame ≡ frame_of body → is_plain_body body ≡ true → got ≡ body_at frame → frame_of got ≡ frame
-same_frame frame body got is plain told =
-    let short : length body < 2 ^ 32 = omega (arith, body_bound body plain) in
-    let e : got ≡ body = told ∙ (ap body_at is ∙ frame_body body short) in
-    ap frame_of e ∙ sym is
+-- What a frame's length field tells is its body,
+pub same_body : (codec : Codec) (records : List (List ℕ)) (frame got : List ℕ) → IsFrame codec records frame → got ≡ body_at frame → got ≡ packet_bytes codec records
+same_body codec records frame got f told = told ∙ (ap body_at f.is ∙ frame_body (packet_bytes codec records) (omega (arith, f.small)))
 
-pub not_other : (whole frame : List ℕ) (r : Bool) → whole ≡ frame → r ≡ not (bytes_eq whole frame) → r ≡ true → ⊥
-not_other whole frame r e is h =
-    let same = same_bytes whole frame e in
+-- and so the frame is that of this body,
+pub same_frame : (codec : Codec) (records : List (List ℕ)) (frame got : List ℕ) → IsFrame codec records frame → got ≡ body_at frame → frame_of got ≡ frame
+same_frame codec records frame got f told = ap frame_of (same_body codec records frame got f told) ∙ sym f.is
+
+-- which has at most 2^31 bytes,
+pub same_small : (codec : Codec) (records : List (List ℕ)) (frame got : List ℕ) → IsFrame codec records frame → got ≡ body_at frame → length got ≤ 2 ^ 31
+same_small codec records frame got f told = omega (arith, ap length (same_body codec records frame got f told), f.small)
+
+-- is a packet,
+pub same_packet : (codec : Codec) (records : List (List ℕ)) (frame got : List ℕ) → IsFrame codec records frame → got ≡ body_at frame → IsPacket codec records got
+same_packet codec records frame got f told = subst (IsPacket codec records) (sym (same_body codec records frame got f told)) f.packet
+
+-- and is judged to be one.
+pub same_verdict : (codec : Codec) (records : List (List ℕ)) (frame got : List ℕ) → IsFrame codec records frame → got ≡ body_at frame
+    → packet_verdict (length got) got ≡ whole (record { codec = codec; count = length records }) (length got)
+same_verdict codec records frame got f told =
+    ap (packet_verdict (length got)) (sym (append-nil got)) ∙ packet_whole_verdict codec records got [] (same_packet codec records frame got f told)
+
+pub no_fault : (kind : FaultKind) (place n : ℕ) (head : PacketHead) → ◌≡◌ {A = Verdict PacketHead} (fault kind place) (whole head n) → ⊥
+no_fault kind place n head e = false≢true (ap is_whole e)
+
+pub same_head : (h k : PacketHead) (m n : ℕ) → ◌≡◌ {A = Verdict PacketHead} (whole h m) (whole k n) → h ≡ k
+same_head h k m n e = cc
+
+pub not_other : (xs frame : List ℕ) (r : Bool) → xs ≡ frame → r ≡ not (bytes_eq xs frame) → r ≡ true → ⊥
+not_other xs frame r e is h =
+    let same = same_bytes xs frame e in
     let k = rw same at is in
     false≢true (sym k ∙ h)

@@ -4,6 +4,7 @@ pub mod Once
 pub mod Plays
 pub mod Reading
 pub mod Records
+pub mod Spelled
 pub mod Splits
 pub mod Talks
 pub mod Values

@@ -6,7 +6,7 @@ use Rattle.std.proofs.lemmas.List.{append-nil, map_push}
 use Rattle.avl_values.specs.Record.{Record}
 use Rattle.avl_values.specs.declared.codec.Codec.{Codec}
 use Rattle.avl_values.specs.declared.codec.Codec.TheVariants.{C8}
-use Rattle.plain_records.specs.PlainBody.{plain_record}
+use Rattle.trial_bench.specs.PlainFrame.{plain_record}
 use Rattle.trial_model.specs.Acquired.{IsAcquired}
 use Rattle.trial_model.specs.Acquisition.{Decided, Watching, bytes_of, decided, is_due, powered_up}
 use Rattle.trial_model.specs.Decisions.{Decision, DeviceHistory, after_connection, after_fix, after_step, before_all, history_of, progress_of, records_decided, steps_of, store_cost}

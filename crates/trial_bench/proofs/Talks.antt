@@ -1,10 +1,12 @@
 -- The connection that was talked over.
-use Rattle.std.proofs.Common.{◌≡◌, ℕ, ◌<◌, ◌≤◌, true, List, [], ◌∷◌, length, fold, Option, Some, None, refl, sym, ap, ◌∙◌, arith}
-use Rattle.plain_records.specs.PlainBody.{count_of, is_plain_body, records_of}
+use Rattle.std.proofs.Common.{◌≡◌, ℕ, ◌<◌, ◌≤◌, List, [], ◌∷◌, length, fold, Option, Some, None, refl, sym, ap, subst, ◌∙◌, arith}
+use Rattle.std.proofs.lemmas.List.{length-map}
+use Rattle.avl_values.specs.declared.codec.Codec.{Codec}
+use Rattle.avl_values.specs.declared.codec.Codec.TheVariants.{C8}
 use Rattle.trial_model.specs.Frames.{frame_of}
 use Rattle.trial_model.specs.RecordLists.{add_once}
-use Rattle.trial_bench.specs.PlainFrame.{ArePlain, body_of}
-use Rattle.trial_bench.proofs.Bodies.{body_is_plain, body_records}
+use Rattle.trial_bench.specs.PlainFrame.{ArePlain, IsFrame, body_of, bytes_of_each, records_with}
+use Rattle.trial_bench.proofs.Bodies.{is_frame, same_records}
 use Rattle.avl_values.specs.Record.{Record}
 use Rattle.trial_model.specs.declared.outcome.ConnectionOutcome.{ConnectionOutcome}
 use Rattle.trial_model.specs.declared.outcome.DeviceEnd.TheVariants as Device
@@ -23,13 +25,14 @@ unfolding connection_of
 quiet imei records e = rw e refl
 
 pub counts : (records : List Record) (frame : List ℕ) (count : Option ℕ) → ArePlain records → 0 < length records → length records ≤ 255 → frame ≡ frame_of (body_of records)
-    → ((body : List ℕ) → frame ≡ frame_of body → is_plain_body body ≡ true → count ≡ Some (count_of body)) → count ≡ Some (length records)
-counts records frame count plain some few is told = told (body_of records) is (body_is_plain records plain some few)
+    → ((codec : Codec) (rs : List (List ℕ)) → IsFrame codec rs frame → count ≡ Some (length rs)) → count ≡ Some (length records)
+counts records frame count plain some few is told =
+    told C8 (bytes_of_each records) (subst (IsFrame C8 (bytes_of_each records)) (sym is) (is_frame records plain some few)) ∙ ap (λ n. Some n) (length-map records (λ r. r.bytes))
 
 pub archives : (records : List Record) (frame : List ℕ) (old new : List Record) → ArePlain records → 0 < length records → length records ≤ 255 → frame ≡ frame_of (body_of records)
-    → ((body : List ℕ) → frame ≡ frame_of body → is_plain_body body ≡ true → new ≡ fold add_once old (records_of body)) → new ≡ fold add_once old records
+    → ((codec : Codec) (rs : List (List ℕ)) → IsFrame codec rs frame → new ≡ fold add_once old (records_with codec rs)) → new ≡ fold add_once old records
 archives records frame old new plain some few is told =
-    told (body_of records) is (body_is_plain records plain some few) ∙ ap (fold add_once old) (body_records records plain)
+    told C8 (bytes_of_each records) (subst (IsFrame C8 (bytes_of_each records)) (sym is) (is_frame records plain some few)) ∙ ap (fold add_once old) (same_records records plain)
 
 pub never_none : (count : Option ℕ) (n : ℕ) → count ≡ Some n → count ≡ None → ⊥
 never_none count n e h = let k : ◌≡◌ {A = Option ℕ} None (Some n) = sym h ∙ e in cc

@@ -1,3 +1,4 @@
+pub mod GpsFits
 pub mod Lines
 pub mod Numbers
 pub mod PlainConnection

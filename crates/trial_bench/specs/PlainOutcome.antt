@@ -1,7 +1,7 @@
 -- The whole outcome of a script that is built, as a function of the script.
 use Rattle.std.specs.Prelude.{ℕ, List, [], ◌∷◌, Option, Some, None, if◌then◌else◌}
 use Rattle.avl_values.specs.Record.{Record}
-use Rattle.plain_records.specs.PlainBody.{plain_record}
+use Rattle.trial_bench.specs.PlainFrame.{plain_record}
 use Rattle.trial_model.specs.Acquisition.{bytes_of}
 use Rattle.trial_model.specs.RecordLists.{first_places}
 use Rattle.trial_model.specs.Results.{Results}

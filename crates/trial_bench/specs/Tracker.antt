@@ -3,7 +3,7 @@ use Rattle.std.specs.Prelude.{ℕ, ◌≡◌, ◌==◌, ◌&&◌, ◌++◌, nat_
 use Rattle.std.specs.Int.{abs_diff}
 use Rattle.std.specs.List.{fold}
 use Rattle.avl_values.specs.Record.{Record}
-use Rattle.plain_records.specs.PlainBody.{plain_record}
+use Rattle.trial_bench.specs.PlainFrame.{ArePlain, plain_record}
 use Rattle.trial_model.specs.Acquisition.{bytes_of}
 use Rattle.trial_model.specs.RecordLists.{add_once}
 use Rattle.trial_model.specs.declared.fix.Fix.{Fix}
@@ -26,3 +26,4 @@ pub record TakesFix (old : PlainTracker) (fix : Fix) (new : PlainTracker) : Type
   pub last : new.last ≡ (if is_due_now old fix then Some fix.time else old.last)
   pub acquired : new.acquired ≡ fold add_once old.acquired (made_of old fix)
   pub flash : new.flash ≡ old.flash ++ made_of old fix
+  pub plain : ArePlain (made_of old fix)

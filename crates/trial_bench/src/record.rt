@@ -2,7 +2,8 @@ ghost use Rattle.std.specs.Prelude.{◌≡◌, ◌+◌, ◌≤◌, ◌++◌, OnO
 ghost use Rattle.arrayvec.specs.ArrayVec.{array_vec_len};
 ghost use Rattle.avl_values.specs.Codec.{is_codec};
 ghost use Rattle.avl_values.specs.Viewed.{record_of, records_of};
-ghost use Rattle.plain_records.specs.PlainBody.{plain_record};
+ghost use Rattle.trial_bench.specs.GpsFits.{GpsFits};
+ghost use Rattle.trial_bench.specs.PlainFrame.{IsPlain, plain_record};
 ghost use Rattle.trial_model.specs.Acquisition.{bytes_of, gps_bytes};
 ghost use Rattle.trial_model.specs.RecordLists.{add_once, is_listed, is_same};
 
@@ -13,7 +14,8 @@ use trial_model::Fix;
 
 /// The Codec 8 record of a fix, with priority 0, event 0 and no elements.
 pub fn record_of_fix(fix: &Fix) -> Rec
-    ensures { record_of result ≡ plain_record (bytes_of fix.now) }
+    ensures bytes { record_of result ≡ plain_record (bytes_of fix.now) }
+    ensures plain { IsPlain (plain_record (bytes_of fix.now)) }
 {
     let mut bytes: ArrayVec<u8, 255> = ArrayVec::new();
     put(&mut bytes, &fix.time.to_be_bytes());
@@ -28,7 +30,8 @@ pub fn record_of_fix(fix: &Fix) -> Rec
 
 fn put_gps(bytes: &mut ArrayVec<u8, 255>, gps: Gps)
     requires { array_vec_len bytes.old ≤ 240 }
-    ensures { bytes.new.items ≡ bytes.old.items ++ gps_bytes gps }
+    ensures bytes { bytes.new.items ≡ bytes.old.items ++ gps_bytes gps }
+    ensures fits { GpsFits gps }
 {
     put(bytes, &gps.longitude.cast_unsigned().to_be_bytes());
     put(bytes, &gps.latitude.cast_unsigned().to_be_bytes());

@@ -1,14 +1,16 @@
-ghost use Rattle.std.specs.Prelude.{◌≡◌, ◌≤◌, ◌*◌, ℕ, List, Some, true, map, length, IfOk, OnOk, if◌then◌else◌};
+ghost use Rattle.std.specs.Prelude.{◌≡◌, ℕ, List, Some, length, IfOk, OnOk, if◌then◌else◌};
 ghost use Rattle.std.specs.List.{fold};
 ghost use Rattle.std.specs.Str.{bytes_eq};
-ghost use Rattle.plain_records.specs.PlainBody.{count_of, is_plain_body, pieces, plain_record, records_of};
-ghost use Rattle.trial_model.specs.Frames.{frame_of, login_of};
+ghost use Rattle.avl_values.specs.declared.codec.Codec.{Codec as CodecOf};
+ghost use Rattle.record_layout.specs.Packet.{IsPacket};
+ghost use Rattle.trial_bench.specs.PlainFrame.{IsFrame, records_with};
+ghost use Rattle.trial_model.specs.Frames.{login_of};
 ghost use Rattle.trial_model.specs.RecordLists.{add_once};
 
 use crate::frame::{body_in, write_frame, write_login};
 use crate::record::add_wide_once;
 use avl_values::{Codec, Imei, NoMemory, WideList};
-use plain_records::plain_count;
+use record_codecs::{read_packet, records};
 use std::alloc::Global;
 
 /// The answer to a login that is accepted.
@@ -29,42 +31,42 @@ pub fn answer_login(alloc: Global, known: Imei, login: &[u8]) -> Result<u8, NoMe
     }
 }
 
+/// The bytes of the longest data body that is judged (this project's own).
+const LONGEST_BODY: usize = 1 << 31;
+
 /// Archives the records of a frame that the device doesn't have yet, each once, and answers the frame's number of records;
-/// None where the bytes are no whole frame.
+/// None where the bytes are no whole frame of a data body of at most 2^31 bytes.
 pub fn take_frame(
     alloc: Global,
     archive: &mut WideList,
     frame: &[u8],
 ) -> Result<Option<u8>, NoMemory>
-    ensures counted { IfOk result (λ count. (body : List ℕ) → frame.now ≡ frame_of body → is_plain_body body ≡ true → count ≡ Some (count_of body)) }
-    ensures archived { OnOk result ((body : List ℕ) → frame.now ≡ frame_of body → is_plain_body body ≡ true → archive.new ≡ fold add_once archive.old (records_of body)) }
+    ensures counted { IfOk result (λ count. (codec : CodecOf) (rs : List (List ℕ)) → IsFrame codec rs frame.now → count ≡ Some (length rs)) }
+    ensures archived { OnOk result ((codec : CodecOf) (rs : List (List ℕ)) → IsFrame codec rs frame.now → archive.new ≡ fold add_once archive.old (records_with codec rs)) }
 {
     let body = body_in(frame);
-    match plain_count(body) {
-        None => Ok(None),
-        Some(count) => {
+    if body.len() > LONGEST_BODY {
+        return Ok(None);
+    }
+    match read_packet(body) {
+        Err(_) => Ok(None),
+        Ok(head) => {
             let whole = write_frame(alloc, body)?;
             if whole.as_slice() != frame {
                 return Ok(None);
             }
-            store(alloc, archive, &body[2..], count)?;
-            Ok(Some(count))
+            store(alloc, archive, head.codec, body)?;
+            Ok(Some(head.count))
         }
     }
 }
 
-// Archives so many records of 30 bytes, each once.
-fn store(alloc: Global, archive: &mut WideList, records: &[u8], count: u8) -> Result<(), NoMemory>
-    requires { 30 * count ≤ length records.now }
-    ensures { OnOk result (archive.new ≡ fold add_once archive.old (map plain_record (pieces count records.now))) }
+// Archives the records of a data body, each once.
+fn store(alloc: Global, archive: &mut WideList, codec: Codec, body: &[u8]) -> Result<(), NoMemory>
+    ensures { OnOk result ((rs : List (List ℕ)) → IsPacket codec rs body.now → archive.new ≡ fold add_once archive.old (records_with codec rs)) }
 {
-    let mut rest = records;
-    let mut left = count;
-    while left > 0 {
-        let (record, more) = rest.split_at(30);
-        add_wide_once(alloc, archive, Codec::C8, record)?;
-        rest = more;
-        left -= 1;
+    for bytes in records(body) {
+        add_wide_once(alloc, archive, codec, bytes)?;
     }
     Ok(())
 }

@@ -88,6 +88,7 @@ fn connected(alloc: Global, imei: Imei, tracker: PlainTracker) -> Result<Outcome
 // The device's own records, made of its fixes in order.
 fn acquire(alloc: Global, script: &PlainScript) -> Result<PlainTracker, NoMemory>
     ensures flash { IfOk result (λ t. t.flash ≡ made_by script.now) }
+    ensures plain { IfOk result (λ t. ArePlain t.flash) }
     ensures acquired { IfOk result (λ t. t.acquired ≡ first_places (made_by script.now)) }
 {
     let mut tracker = new_tracker(alloc, script.period);

@@ -1,12 +1,14 @@
 -- What a stream up holds: a login, and then data frames (Teltonika, Data Sending Protocols, "Codec 8 protocol sending
--- over TCP"). For now each frame has Codec 8 records without elements.
-use Rattle.std.specs.Prelude.{ℕ, zero, suc, ◌+◌, ◌&&◌, nat_eq, nat_le, Bool, List, [], ◌∷◌, ◌++◌, length, take, drop, if◌then◌else◌}
+-- over TCP"). A frame has one data body, of any codec.
+use Rattle.std.specs.Prelude.{ℕ, zero, suc, ◌+◌, ◌&&◌, nat_eq, nat_le, Bool, true, false, List, [], ◌∷◌, ◌++◌, length, take, drop, if◌then◌else◌}
 use Rattle.std.specs.List.{filter, flat_map, starts_with}
 use Rattle.std.specs.Int.{from_be_bytes, to_be_bytes, w16, w32}
 use Rattle.avl_values.specs.Imei.{imei_text}
 use Rattle.avl_values.specs.Record.{Record}
 use Rattle.crc_field.specs.Crc.{crc_of}
-use Rattle.plain_records.specs.PlainBody.{is_plain_body, records_of}
+use Rattle.layout.specs.Rows.{Verdict, whole, short, fault}
+use Rattle.record_layout.specs.PacketRows.{packet_verdict}
+use Rattle.record_layout.specs.RecordsOf.{records_of}
 
 -- the length 15 in two bytes, and the 15 digits
 abbrev pub login_of : ℕ → List ℕ
@@ -19,13 +21,22 @@ login_size = 17
 abbrev pub frame_of : List ℕ → List ℕ
 frame_of body = 0 ∷ 0 ∷ 0 ∷ 0 ∷ (to_be_bytes w32 (length body) ++ (body ++ 0 ∷ 0 ∷ to_be_bytes w16 (crc_of body)))
 
+abbrev pub is_whole : {V : Type 0} → Verdict V → Bool
+is_whole (whole v n) = true
+is_whole short = false
+is_whole (fault kind place) = false
+
+-- the bytes are a whole data body, and nothing more
+abbrev pub is_packet : List ℕ → Bool
+is_packet body = is_whole (packet_verdict (length body) body)
+
 -- the body that the length field of a frame at the front tells
 abbrev pub body_at : List ℕ → List ℕ
 body_at bytes = take (from_be_bytes w32 (take 4 (drop 4 bytes))) (drop 8 bytes)
 
 -- a whole data frame lies at the front
 abbrev pub has_frame : List ℕ → Bool
-has_frame bytes = is_plain_body (body_at bytes) && starts_with nat_eq bytes (frame_of (body_at bytes))
+has_frame bytes = is_packet (body_at bytes) && starts_with nat_eq bytes (frame_of (body_at bytes))
 
 -- A frame, with the place behind its last byte.
 pub record Frame : Type 0 where

@@ -3,8 +3,8 @@ use Rattle.std.proofs.lemmas.Int.{to_z-of_z}
 use Rattle.trial_bench.proofs.Records.{gps_joined}
 use Rattle.trial_bench.proofs.record.put_gps.Goals as goal
 
-pub returns : goal.returns
-returns c =
+pub returns-clause-bytes : goal.returns-clause-bytes
+returns-clause-bytes c =
     let a : to_z w32 (of_z w32 c.args.gps.longitude) ≡ c.args.gps.longitude = search (rules, to_z-of_z) in
     let b : to_z w32 (of_z w32 c.args.gps.latitude) ≡ c.args.gps.latitude = search (rules, to_z-of_z) in
     let d : to_z w16 (of_z w16 c.args.gps.altitude) ≡ c.args.gps.altitude = search (rules, to_z-of_z) in

@@ -1,11 +1,10 @@
-use Rattle.std.proofs.Common.{◌≡◌, ◌≤◌, ◌*◌, length, map, fold}
-use Rattle.plain_records.specs.PlainBody.{pieces, plain_record}
+use Rattle.std.proofs.Common.{◌≡◌, ℕ, List, fold}
+use Rattle.record_codecs.specs.Views.{records_left}
+use Rattle.record_layout.specs.Packet.{IsPacket}
 use Rattle.trial_model.specs.RecordLists.{add_once}
+use Rattle.trial_bench.specs.PlainFrame.{records_with}
 use Rattle.trial_bench.proofs.server.store.Given as goal
 
-abbrev pub invariant-loop-left : goal.invariant-loop-left
-invariant-loop-left l =
-    (30 * l.left ≤ length l.rest) × (fold add_once l.archive (map plain_record (pieces l.left l.rest)) ≡ fold add_once l.initial.archive (map plain_record (pieces l.count l.records)))
-
-abbrev pub decreases-loop-left : goal.decreases-loop-left
-decreases-loop-left l = l.left
+abbrev pub invariant-loop-bytes : goal.invariant-loop-bytes
+invariant-loop-bytes l =
+    (rs : List (List ℕ)) → IsPacket l.codec rs l.body → fold add_once l.archive (records_with l.codec (records_left l.bytes-iterator)) ≡ fold add_once l.initial.archive (records_with l.codec rs)

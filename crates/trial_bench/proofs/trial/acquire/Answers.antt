@@ -1,6 +1,6 @@
 use Rattle.std.proofs.Common.{ap, ◌∙◌}
 use Rattle.trial_model.specs.RecordLists.{first_places}
-use Rattle.trial_bench.proofs.Acquiring.{acquired_step, made_all, made_step}
+use Rattle.trial_bench.proofs.Acquiring.{acquired_step, made_all, made_step, plain_step}
 use Rattle.trial_bench.proofs.trial.acquire.Goals as goal
 
 pub loop-numbered-preserved : goal.loop-numbered-preserved
@@ -13,15 +13,16 @@ loop-numbered-preserved c =
     let is = rw items at c.numbered-item.is in (
       c.in_ok-take_fix.ensures.period ∙ c.loop-numbered.invariant.0,
       acquired_step old new f c.in_ok-take_fix.ensures c.loop-numbered.invariant.1,
-      made_step old new c.args.script.now.fixes.items c.loop-numbered.numbered-index f _ below is c.in_ok-take_fix.ensures c.loop-numbered.invariant.2,
+      plain_step old new f c.in_ok-take_fix.ensures c.loop-numbered.invariant.2,
+      made_step old new c.args.script.now.fixes.items c.loop-numbered.numbered-index f _ below is c.in_ok-take_fix.ensures c.loop-numbered.invariant.3,
     )
 
 pub returns-clause-flash : goal.returns-clause-flash
 returns-clause-flash c =
     let past = rw c.deref-numbered-items.ensures.value at c.loop-numbered-test.false in
-    made_all c.loop-numbered.tracker c.args.script.now.fixes.items c.loop-numbered.numbered-index _ past c.loop-numbered.invariant.2
+    made_all c.loop-numbered.tracker c.args.script.now.fixes.items c.loop-numbered.numbered-index _ past c.loop-numbered.invariant.3
 
 pub returns-clause-acquired : goal.returns-clause-acquired
 returns-clause-acquired c =
     let past = rw c.deref-numbered-items.ensures.value at c.loop-numbered-test.false in
-    c.loop-numbered.invariant.1 ∙ ap first_places (made_all c.loop-numbered.tracker c.args.script.now.fixes.items c.loop-numbered.numbered-index _ past c.loop-numbered.invariant.2)
+    c.loop-numbered.invariant.1 ∙ ap first_places (made_all c.loop-numbered.tracker c.args.script.now.fixes.items c.loop-numbered.numbered-index _ past c.loop-numbered.invariant.3)

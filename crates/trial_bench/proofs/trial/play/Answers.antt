@@ -1,9 +1,6 @@
 use Rattle.std.proofs.Common.{None, arith}
-use Rattle.trial_bench.proofs.Acquiring.{made_are_plain, made_few}
+use Rattle.trial_bench.proofs.Acquiring.{made_few}
 use Rattle.trial_bench.proofs.trial.play.Goals as goal
-
-pub connected-requires-clause-plain : goal.connected-requires-clause-plain
-connected-requires-clause-plain c = rw c.in_ok-tracker.ensures.flash (made_are_plain c.args.script.now.period None c.args.script.now.fixes.items)
 
 pub connected-requires-clause-few : goal.connected-requires-clause-few
 connected-requires-clause-few c =

@@ -1,2 +1,0 @@
-pub mod PlainBody
-pub mod SomeRecord
