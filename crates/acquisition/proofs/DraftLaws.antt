@@ -1,6 +1,5 @@
 -- A fix's record has room, and narrow ids where Codec 8 has it.
-use Rattle.std.proofs.Common.{◌≡◌, ℕ, zero, suc, ◌+◌, ◌<◌, ◌≤◌, List, [], ◌∷◌, length, get_or, refl, sym, ap, subst, ◌∙◌, arith, All}
-use Rattle.std.specs.List.{AllByRecursion}
+use Rattle.std.proofs.Common.{◌≡◌, ℕ, zero, suc, ◌<◌, ◌≤◌, List, [], ◌∷◌, sym, ap, subst, arith, All}
 use Rattle.avl_values.specs.IoElement.{IoElement}
 use Rattle.avl_values.specs.NxElements.{nx_size}
 use Rattle.avl_values.specs.RecordValue.{RecordValue, value_of}
@@ -9,7 +8,7 @@ use Rattle.avl_values.specs.declared.codec.Codec.{Codec}
 use Rattle.avl_values.specs.declared.codec.Codec.TheVariants.{C8, C8E, C16}
 use Rattle.io_operands.specs.declared.setting.IoSetting.{IoSetting}
 use Rattle.record_layout.specs.Spelling.{HasNoOther}
-use Rattle.record_writing.specs.Length.{record_length, shortest_length, ios_length}
+use Rattle.record_writing.specs.Length.{record_length, ios_length}
 use Rattle.record_writing.specs.Pieces.{id_width}
 use Rattle.record_writing.specs.Refusal.{HasNarrowIds}
 use Rattle.record_writing.proofs.Pieces.{length_summed}

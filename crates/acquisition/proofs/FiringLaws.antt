@@ -1,9 +1,7 @@
 -- Watches and the values that they have seen.
-use Rattle.std.proofs.Common.{◌≡◌, ℕ, suc, List, [], ◌∷◌, length, Bool, true, false, if◌then◌else◌, refl, sym, ap, ◌∙◌, arith, Some, None}
-use Rattle.std.specs.List.{AllByRecursion}
+use Rattle.std.proofs.Common.{◌≡◌, ℕ, suc, List, [], ◌∷◌, length, Bool, true, false, if◌then◌else◌, refl, ap, arith, Some, None}
 use Rattle.avl_values.specs.declared.codec.Codec.{Codec}
 use Rattle.io_operands.specs.Firing.{fires}
-use Rattle.io_operands.specs.Watching.{Watched}
 use Rattle.io_operands.specs.declared.setting.IoSetting.{IoSetting}
 use Rattle.acquisition.specs.Checked.{IsNarrow, AreNarrow}
 use Rattle.acquisition.specs.Firing.{watched_by, fired, remembered, seen}

@@ -1,5 +1,5 @@
 -- What settings without a fault keep.
-use Rattle.std.proofs.Common.{◌≡◌, ℕ, zero, suc, ◌+◌, ◌<◌, ◌≤◌, List, [], ◌∷◌, length, Bool, true, false, cond, not, nat_lt, Option, Some, None, refl, sym, ap, subst, ◌∙◌, arith, if◌then◌else◌, ◌==◌}
+use Rattle.std.proofs.Common.{◌≡◌, ℕ, suc, ◌+◌, ◌≤◌, List, [], ◌∷◌, length, Bool, true, false, cond, not, nat_lt, Option, Some, None, refl, arith, if◌then◌else◌}
 use Rattle.std.specs.List.{AllByRecursion, sum_by, position, position_or_len}
 use Rattle.std.specs.Option.{is_none, option_map, unwrap_or}
 use Rattle.std.proofs.lemmas.Bool.Decides.{nat_tests}
@@ -9,7 +9,7 @@ use Rattle.avl_values.specs.Width.{bytes_of, width_of_bytes}
 use Rattle.avl_values.specs.declared.codec.Codec.{Codec}
 use Rattle.avl_values.specs.declared.codec.Codec.TheVariants.{C8, C8E, C16}
 use Rattle.avl_values.specs.declared.width.Width.{Width}
-use Rattle.avl_values.specs.declared.width.Width.TheVariants.{W1, W2, W4, W8}
+use Rattle.avl_values.specs.declared.width.Width.TheVariants.{W1}
 use Rattle.io_operands.specs.declared.setting.IoSetting.{IoSetting}
 use Rattle.record_writing.specs.Length.{ios_length}
 use Rattle.acquisition.specs.declared.settings.SettingFault.{SettingFault}

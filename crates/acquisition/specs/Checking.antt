@@ -1,5 +1,5 @@
 -- Which settings a device can have (this project's own).
-use Rattle.std.specs.Prelude.{ℕ, ◌+◌, nat_lt, List, length, sum_by, position, Bool, Option, None, Some, if◌then◌else◌}
+use Rattle.std.specs.Prelude.{ℕ, ◌+◌, nat_lt, List, length, sum_by, position, Option, None, Some, if◌then◌else◌}
 use Rattle.std.specs.Option.{is_none, option_map}
 use Rattle.avl_values.specs.Width.{bytes_of, width_of_bytes}
 use Rattle.avl_values.specs.declared.codec.Codec.{Codec}

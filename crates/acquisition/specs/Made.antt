@@ -1,5 +1,5 @@
 -- The records that a fix makes (this project's own).
-use Rattle.std.specs.Prelude.{ℕ, List, [], ◌∷◌, map}
+use Rattle.std.specs.Prelude.{ℕ, []}
 use Rattle.avl_values.specs.Record.{Record}
 use Rattle.avl_values.specs.RecordValue.{RecordValue, pairs_of}
 use Rattle.avl_values.specs.declared.codec.Codec.{Codec}

@@ -1,7 +1,7 @@
 -- Slot after slot of zero bytes.
-use Rattle.std.proofs.Common.{◌≡◌, ℕ, ◌+◌, ◌-◌, ◌*◌, ◌≤◌, List, [], ◌++◌, length, take, drop, replicate, Option, Some, None, sym, ◌∙◌, ap, refl, subst, arith, length-append}
+use Rattle.std.proofs.Common.{◌≡◌, ℕ, ◌+◌, ◌-◌, ◌*◌, List, ◌++◌, length, take, drop, replicate, Option, Some, None, sym, ◌∙◌, ap, subst, arith}
 use Rattle.std.proofs.lemmas.List.{append-nil, take_all, drop_all, length-replicate, replicate-append-replicate}
-use Rattle.medium.specs.Content.{Content, IsImage, settled, written, filled, after_write, after_sync}
+use Rattle.medium.specs.Content.{Content, settled, written, filled, after_write, after_sync}
 use Rattle.medium.specs.State.{IfTold, EveryImage, told}
 use Rattle.medium.proofs.Images.{image-settled}
 
@@ -9,8 +9,8 @@ use Rattle.medium.proofs.Images.{image-settled}
 written-behind : (at : ℕ) (bytes xs : List ℕ) → length xs ≡ at → written 0 at bytes xs ≡ xs ++ bytes
 written-behind at bytes xs size =
     let front : filled 0 at xs ≡ xs =
-      (let none : at - length xs ≡ 0 = omega arith in
-      ap (λ m. take at xs ++ replicate m 0) none ∙ append-nil (take at xs) ∙ take_all at xs (omega arith)) in
+    (let none : at - length xs ≡ 0 = omega arith in
+    ap (λ m. take at xs ++ replicate m 0) none ∙ append-nil (take at xs) ∙ take_all at xs (omega arith)) in
     ap (λ f. f ++ (bytes ++ drop (at + length bytes) xs)) front
     ∙ ap (λ r. xs ++ (bytes ++ r)) (drop_all (at + length bytes) xs (omega arith))
     ∙ ap (λ b. xs ++ b) (append-nil bytes)

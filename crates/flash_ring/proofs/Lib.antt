@@ -1,6 +1,7 @@
 pub mod Closes
 pub mod Entries
 pub mod Formats
+pub mod Laws
 pub mod Loads
 pub mod Ranks
 pub mod Rings

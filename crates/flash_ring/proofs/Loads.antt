@@ -1,13 +1,13 @@
 -- Reading slot after slot.
-use Rattle.std.proofs.Common.{◌≡◌, ◌≢◌, ◌⊎◌, inl, inr, ℕ, ◌+◌, ◌-◌, ◌*◌, ◌<◌, ◌≤◌, min, List, [], ◌++◌, length, get_or, set, take, drop, Option, Some, None, slice_get, sym, ◌∙◌, ap, refl, subst, arith, mul-le-mul_left, length-set, length-take, length-drop, get_or-set_same, get_or-set_other}
-use Rattle.std.proofs.lemmas.Bool.{cases_lt, cases_eq}
+use Rattle.std.proofs.Common.{◌≡◌, inl, inr, ℕ, ◌+◌, ◌-◌, ◌*◌, ◌<◌, ◌≤◌, min, List, ◌++◌, length, get_or, set, take, drop, Option, Some, None, sym, ◌∙◌, ap, subst, arith, mul-le-mul_left, length-set, get_or-set_same, get_or-set_other}
+use Rattle.std.proofs.lemmas.Bool.{cases_eq}
 use Rattle.std.proofs.lemmas.List.{take_all, take_at}
-use Rattle.std.proofs.lemmas.Option.{get_or_from_slice_get, slice_get_within, slice_get-get_or}
+use Rattle.std.proofs.lemmas.Option.{get_or_from_slice_get, slice_get_within}
 use Rattle.medium.specs.Content.{Content}
 use Rattle.medium.specs.State.{IfTold}
 use Rattle.flash_ring.specs.Held.{Held, IsSoundHeld, AreSound}
 use Rattle.flash_ring.specs.Slot.{HoldsSound, IsSoundSlot, IsFlash, IsFirstUnsound, slot_of, slot_bytes, slots_of}
-use Rattle.flash_ring.proofs.Slots.{gate-open, slots_of-at, slots_of-is, length-slots_of}
+use Rattle.flash_ring.proofs.Slots.{gate-open, slots_of-is}
 
 -- the first slots have been read
 pub record HasRead (done : ℕ) (content : Option Content) (slots : List (Option Held)) : Type 0 where
@@ -34,9 +34,9 @@ module _ (n k count : ℕ) (into : List ℕ) (slots : List (Option Held)) (low :
   read_more_sound : (content : Option Content) → HasRead k content slots → (held : Option Held) → held ≡ slot_of into → IsSoundSlot into
       → (j : ℕ) (h : Held) → j < k + 1 → get_or (set slots k held) j None ≡ Some h → IsSoundHeld h
   read_more_sound content was held is sound j h below here = elim (cases_eq j k) as (λ _. IsSoundHeld h) [
-      inl same ↦ sound_held into h sound (sym is ∙ sym (get_or-set_same slots k held None (omega arith)) ∙ ap (λ i. get_or (set slots k held) i None) (sym same) ∙ here)
+    | inl same ↦ sound_held into h sound (sym is ∙ sym (get_or-set_same slots k held None (omega arith)) ∙ ap (λ i. get_or (set slots k held) i None) (sym same) ∙ here)
     | inr other ↦ was.sound j h (omega arith) (sym (get_or-set_other slots k j held None other) ∙ here)
-    ]
+  ]
 
   pub read-more : (content now : Option Content) → HasRead k content slots → now ≡ content
       → IfTold now (λ c. count ≡ min 272 (length c.reads - 272 * k)) → IfTold now (λ c. take count into ≡ take count (drop (272 * k) c.reads))
@@ -51,14 +51,14 @@ module _ (n k count : ℕ) (into : List ℕ) (slots : List (Option Held)) (low :
       record {
         sound = read_more_sound (Some c) was held is sound;
         flash = λ fits j below. elim (cases_eq j k) as (λ _. IsSoundSlot (slot_bytes j c.reads)) [
-          inl here ↦ let R : ℕ → Type 0 = λ i. IsSoundSlot (slot_bytes i c.reads) in subst R (sym here) (subst IsSoundSlot (there fits) sound)
-        | inr other ↦ was.flash (omega (arith, length-set slots k held)) j (omega arith)
+          | inl here ↦ let R : ℕ → Type 0 = λ i. IsSoundSlot (slot_bytes i c.reads) in subst R (sym here) (subst IsSoundSlot (there fits) sound)
+          | inr other ↦ was.flash (omega (arith, length-set slots k held)) j (omega arith)
         ];
         holds = λ fits j below. elim (cases_eq j k) as (λ _. get_or (set slots k held) j None ≡ slot_of (slot_bytes j c.reads)) [
-          inl here ↦
-            ap (λ i. get_or (set slots k held) i None) here ∙ get_or-set_same slots k held None (omega arith) ∙ is ∙ ap slot_of (there fits)
-            ∙ ap (λ i. slot_of (slot_bytes i c.reads)) (sym here)
-        | inr other ↦ get_or-set_other slots k j held None other ∙ was.holds (omega (arith, length-set slots k held)) j (omega arith)
+          | inl here ↦
+              ap (λ i. get_or (set slots k held) i None) here ∙ get_or-set_same slots k held None (omega arith) ∙ is ∙ ap slot_of (there fits)
+              ∙ ap (λ i. slot_of (slot_bytes i c.reads)) (sym here)
+          | inr other ↦ get_or-set_other slots k j held None other ∙ was.holds (omega (arith, length-set slots k held)) j (omega arith)
         ];
       }
 
@@ -71,11 +71,14 @@ module _ (n k count : ℕ) (into : List ℕ) (slots : List (Option Held)) (low :
       let Q : Option Content → Type 0 = λ o. IfTold o (λ c. take count into ≡ take count (drop (272 * k) c.reads)) in
       let counted_c = subst P same counted in
       let bytes_c = subst Q same bytes in
-      λ fits. (fits, record {
-        low = low;
-        before = λ j below. was.flash (omega arith) j below;
-        unsound = λ sound. bad (subst IsSoundSlot (sym (slot_read c n k count into fits low whole counted_c bytes_c)) sound);
-      })
+      λ fits. (
+        fits,
+        record {
+          low = low;
+          before = λ j below. was.flash (omega arith) j below;
+          unsound = λ sound. bad (subst IsSoundSlot (sym (slot_read c n k count into fits low whole counted_c bytes_c)) sound);
+        },
+      )
 
 -- every slot has been read
 pub read-sound : (content : Option Content) (slots : List (Option Held)) (done : ℕ) → length slots ≤ done → HasRead done content slots → AreSound slots
@@ -84,9 +87,10 @@ read-sound content slots done all was k h here = was.sound k h (let low = slice_
 pub read-whole : (content : Option Content) (slots : List (Option Held)) (n done : ℕ) → length slots ≡ n → n ≤ done → HasRead done content slots
     → IfTold content (λ c. length c.reads ≡ 272 * n → IsFlash n c.reads × (slots ≡ slots_of n c.reads))
 read-whole None slots n done size all was = tt
-read-whole (Some c) slots n done size all was = λ fits.
-    (record { size = fits; sound = λ k low. was.flash (omega arith) k (omega arith) },
-      sym (slots_of-is n c.reads slots size (λ k low. sym (was.holds (omega arith) k (omega arith)))))
+read-whole (Some c) slots n done size all was = λ fits. (
+  record { size = fits; sound = λ k low. was.flash (omega arith) k (omega arith) },
+  sym (slots_of-is n c.reads slots size (λ k low. sym (was.holds (omega arith) k (omega arith)))),
+)
 
 -- a slice that kept its length is the whole list again
 pub front_of : (new rest : List (Option Held)) (n : ℕ) → length new ≡ n → take n (new ++ rest) ≡ new

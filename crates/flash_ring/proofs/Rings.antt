@@ -1,13 +1,12 @@
 -- What stays true of a ring's slots.
-use Rattle.std.proofs.Common.{◌≡◌, ◌≢◌, ◌⊎◌, inl, inr, ℕ, zero, suc, ◌+◌, ◌-◌, ◌*◌, ◌<◌, ◌≤◌, ◌^◌, max, if◌then◌else◌, Bool, true, false, IsTrue, List, [], ◌∷◌, length, get_or, set, take, drop, map, Option, Some, None, Result, Ok, Err, OnOk, is_err, slice_get, sym, ◌∙◌, ap, refl, subst, arith, length-set, get_or-set_same, get_or-set_other}
-use Rattle.std.proofs.lemmas.Bool.{cases_lt, cases_eq, false≢true}
-use Rattle.std.proofs.lemmas.List.{take_all, drop_more, take_more}
+use Rattle.std.proofs.Common.{◌≡◌, ◌≢◌, ◌⊎◌, inl, inr, ℕ, zero, suc, ◌+◌, ◌*◌, ◌<◌, ◌≤◌, ◌^◌, if◌then◌else◌, Bool, true, false, List, [], ◌∷◌, length, get_or, set, take, drop, map, Option, Some, None, Result, Ok, Err, OnOk, is_err, slice_get, sym, ◌∙◌, ap, refl, subst, arith, length-set, get_or-set_same, get_or-set_other}
+use Rattle.std.proofs.lemmas.Bool.{cases_eq, false≢true}
+use Rattle.std.proofs.lemmas.List.{drop_more}
 use Rattle.std.proofs.lemmas.Option.{get_or_from_slice_get, slice_get_within, slice_get-get_or, slice_get_past}
-use Rattle.medium.specs.State.{MediumState, IfTold, EveryImage}
+use Rattle.medium.specs.State.{MediumState, IfTold}
 use Rattle.record_codecs.specs.SomeRecord.{IsSomeRecord}
-use Rattle.flash_ring.specs.Held.{Held, IsSoundHeld, AreSound, AreBelow, first_closed, put_in, is_full, next_of, closed_all, rec_in, rec_at}
-use Rattle.flash_ring.specs.Slot.{IsFlash, slots_of}
-use Rattle.flash_ring.specs.Images.{IsSettled, HoldsWith, IsEither, unchanged, AreOpen}
+use Rattle.flash_ring.specs.Held.{Held, IsSoundHeld, AreSound, AreBelow, first_closed, is_full, next_of, closed_all, rec_in, rec_at}
+use Rattle.flash_ring.specs.Images.{IsSettled, IsEither, unchanged, AreOpen}
 use Rattle.flash_ring.specs.Ring.{RingView, IsUp, IsRing, IsDurable, EachHolds}
 use Rattle.flash_ring.proofs.Closes.{length-closed_all, only_here, holds-map}
 use Rattle.flash_ring.specs.declared.order.Order.TheVariants.{Oldest}
@@ -32,21 +31,21 @@ held_at slots k j x h is =
     let low : j < length slots = (let l = slice_get_within (set slots k x) j (Some h) is in omega (arith, length-set slots k x)) in
     let at = get_or_from_slice_get (set slots k x) j (Some h) None is in
     elim (cases_eq j k) as (λ _. (x ≡ Some h) ⊎ (slice_get slots j ≡ Some (Some h))) [
-      inl same ↦ inl (sym (get_or-set_same slots k x None (omega arith)) ∙ ap (λ i. get_or (set slots k x) i None) (sym same) ∙ at)
-    | inr other ↦ inr (slice_get-get_or slots j None low ∙ ap Some (sym (get_or-set_other slots k j x None other) ∙ at))
+      | inl same ↦ inl (sym (get_or-set_same slots k x None (omega arith)) ∙ ap (λ i. get_or (set slots k x) i None) (sym same) ∙ at)
+      | inr other ↦ inr (slice_get-get_or slots j None low ∙ ap Some (sym (get_or-set_other slots k j x None other) ∙ at))
     ]
 
 pub sound-set : (slots : List (Option Held)) (k : ℕ) (h : Held) → AreSound slots → IsSoundHeld h → AreSound (set slots k (Some h))
 sound-set slots k h were sound j other is = elim (held_at slots k j (Some h) other is) as (λ _. IsSoundHeld other) [
-    inl new ↦ let same : h ≡ other = cc in subst IsSoundHeld same sound
+  | inl new ↦ let same : h ≡ other = cc in subst IsSoundHeld same sound
   | inr old ↦ were j other old
-  ]
+]
 
 pub below-set : (slots : List (Option Held)) (k : ℕ) (h : Held) (next : ℕ) → AreBelow next slots → h.seq ≡ next → AreBelow (next + 1) (set slots k (Some h))
 below-set slots k h next were seq j other is = elim (held_at slots k j (Some h) other is) as (λ _. other.seq < next + 1) [
-    inl new ↦ let same : h ≡ other = cc in let s = ap (λ (x : Held). x.seq) same in omega arith
+  | inl new ↦ let same : h ≡ other = cc in let s = ap (λ (x : Held). x.seq) same in omega arith
   | inr old ↦ let b = were j other old in omega arith
-  ]
+]
 
 closed-at : (slots : List (Option Held)) (k j : ℕ) (h : Held) → slice_get (set slots k None) j ≡ Some (Some h) → slice_get slots j ≡ Some (Some h)
 closed-at slots k j h is = elim (held_at slots k j None h is) as (λ _. slice_get slots j ≡ Some (Some h)) [ inl never ↦ absurd (cc) | inr old ↦ old ]
@@ -150,9 +149,9 @@ ring-closed v m ks left ring up is ready settled =
       next = ring.next;
       up = λ _. record {
         settled =
-          let P : List (Option Held) → Type 0 = λ s. IfTold m.content (IsSettled (length v.slots) s) in
-          let Q : ℕ → Type 0 = λ n. IfTold m.content (IsSettled n left) in
-          subst Q (sym size) (subst P (sym is) settled);
+            let P : List (Option Held) → Type 0 = λ s. IfTold m.content (IsSettled (length v.slots) s) in
+            let Q : ℕ → Type 0 = λ n. IfTold m.content (IsSettled n left) in
+            subst Q (sym size) (subst P (sym is) settled);
         sound = subst AreSound (sym is) (sound-closed ks v.slots (ring.up up).sound);
         below = subst (AreBelow v.next) (sym is) (below-closed ks v.slots v.next (ring.up up).below);
       };
@@ -196,8 +195,9 @@ is_oldest slots k some full is = of_entries (entries_of Oldest slots) refl (olde
         let at : k ≡ all.0.index = is ∙ ap first_slot same ∙ all.0.place ∙ omega arith in
         let here : k ≡ e.slot = is ∙ ap first_slot same in
         let room : with_room slots ≡ without_first (entries_of Oldest slots) slots =
-          (let P : Bool → Type 0 = λ b. (if b then without_first (entries_of Oldest slots) slots else slots) ≡ without_first (entries_of Oldest slots) slots in subst P (sym full) refl) in
+        (let P : Bool → Type 0 = λ b. (if b then without_first (entries_of Oldest slots) slots else slots) ≡ without_first (entries_of Oldest slots) slots in subst P (sym full) refl) in
         record {
+          is = is;
           held = e.held;
           open_slot = ap (slice_get slots) at ∙ all.0.open_slot;
           first = ap (map rec_of) same ∙ ap (λ (xs : List Entry). rec_of e ∷ drop 1 (map rec_of xs)) (sym same);

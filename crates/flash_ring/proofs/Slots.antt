@@ -1,18 +1,16 @@
 -- A flash slot by slot.
-use Rattle.std.proofs.Common.{◌≡◌, ◌≢◌, ◌⊎◌, inl, inr, ℕ, ◌+◌, ◌-◌, ◌*◌, ◌<◌, ◌≤◌, ◌^◌, min, ◌==◌, if◌then◌else◌, Bool, true, false, List, [], ◌∷◌, ◌++◌, length, get_or, set, take, drop, replicate, map, Option, Some, None, Result, Ok, Err, IsOk, OnOk, slice_get, sym, ◌∙◌, ap, refl, subst, arith, eqb, length-append, length-take, length-drop, length-set, get_or-set_same, get_or-set_other}
+use Rattle.std.proofs.Common.{◌≡◌, ◌≢◌, inl, inr, ℕ, ◌+◌, ◌-◌, ◌*◌, ◌<◌, ◌≤◌, ◌^◌, min, if◌then◌else◌, Bool, false, List, [], ◌∷◌, ◌++◌, length, get_or, take, drop, replicate, Option, Some, None, Result, Ok, Err, IsOk, OnOk, sym, ◌∙◌, ap, refl, subst, arith, eqb, length-take, length-drop}
 use Rattle.std.specs.Int.{w64, to_be_bytes, from_be_bytes}
-use Rattle.std.specs.List.{range_with_len}
-use Rattle.std.proofs.lemmas.Bool.{cases_lt, cases_eq, eq-eqb, false≢true}
+use Rattle.std.proofs.lemmas.Bool.{cases_eq, eq-eqb, false≢true}
 use Rattle.std.proofs.lemmas.Bool.Decides.{eqb_tells}
-use Rattle.std.proofs.lemmas.List.{append_assoc, ext_get_or, get_or-take, get_or-drop, get_or_past, take_at, drop_at, set-get_or}
+use Rattle.std.proofs.lemmas.List.{append_assoc, ext_get_or, get_or-take, get_or-drop, take_at, drop_at}
 use Rattle.std.proofs.lemmas.List.FromFn.{length-map-range_with_len, get_or-map-range_with_len}
 use Rattle.std.proofs.lemmas.Nat.{from_be_bytes-to_be_bytes_8}
-use Rattle.std.proofs.lemmas.Option.{get_or_from_slice_get, slice_get_within, slice_get-get_or}
 use Rattle.avl_values.specs.declared.codec.Codec.{Codec}
 use Rattle.avl_values.specs.declared.codec.Codec.TheVariants.{C8, C8E, C16}
 use Rattle.avl_values.specs.Codec.{codec_of, id_of}
-use Rattle.flash_ring.specs.Held.{Held, IsSoundHeld}
-use Rattle.flash_ring.specs.Slot.{body_of, fields_of, slot_of, HoldsSound, IsSoundSlot, slot_bytes, slots_of, IsFlash}
+use Rattle.flash_ring.specs.Held.{Held}
+use Rattle.flash_ring.specs.Slot.{body_of, fields_of, slot_of, HoldsSound, IsSoundSlot, slot_bytes, slots_of}
 
 pub length-slots_of : (n : ℕ) (flash : List ℕ) → length (slots_of n flash) ≡ n
 unfolding slots_of
@@ -26,7 +24,7 @@ pub slots_of-is : (n : ℕ) (flash : List ℕ) (slots : List (Option Held)) → 
     → ((k : ℕ) → k < n → slot_of (slot_bytes k flash) ≡ get_or slots k None) → slots_of n flash ≡ slots
 slots_of-is n flash slots size each =
     ext_get_or None (slots_of n flash) slots (length-slots_of n flash ∙ sym size)
-      (λ k low. let low_n : k < n = omega (arith, length-slots_of n flash) in slots_of-at n k flash None low_n ∙ each k low_n)
+    (λ k low. let low_n : k < n = omega (arith, length-slots_of n flash) in slots_of-at n k flash None low_n ∙ each k low_n)
 
 -- the bytes of one slot
 pub slot_bytes-at : (k p : ℕ) (flash : List ℕ) → p < 272 → get_or (slot_bytes k flash) p 0 ≡ get_or flash (272 * k + p) 0
@@ -38,7 +36,7 @@ length-slot_bytes k flash = omega (arith, length-take 272 (drop (272 * k) flash)
 pub slot_bytes-same : (k : ℕ) (a b : List ℕ) → length a ≡ length b → ((p : ℕ) → p < 272 → get_or a (272 * k + p) 0 ≡ get_or b (272 * k + p) 0) → slot_bytes k a ≡ slot_bytes k b
 slot_bytes-same k a b size same =
     ext_get_or 0 (slot_bytes k a) (slot_bytes k b) (omega (arith, length-slot_bytes k a, length-slot_bytes k b))
-      (λ p low. let within : p < 272 = omega (arith, length-slot_bytes k a) in slot_bytes-at k p a within ∙ same p within ∙ sym (slot_bytes-at k p b within))
+    (λ p low. let within : p < 272 = omega (arith, length-slot_bytes k a) in slot_bytes-at k p a within ∙ same p within ∙ sym (slot_bytes-at k p b within))
 
 pub eqb-not : (a b : ℕ) → a ≢ b → eqb a b ≡ false
 eqb-not a b apart = elim (eqb_tells a b) as (λ _. eqb a b ≡ false) [ inl same ↦ absurd (apart same.1) | inr other ↦ other.0 ]
@@ -63,9 +61,9 @@ gate-closed bytes sound none gate = subst HoldsSound none (sound gate)
 -- a slot that holds something has an open gate
 pub gate-open : (bytes : List ℕ) (h : Held) → slot_of bytes ≡ Some h → get_or bytes 0 0 ≡ 0xA5
 gate-open bytes h some = elim (cases_eq (get_or bytes 0 0) 0xA5) as (λ _. get_or bytes 0 0 ≡ 0xA5) [
-    inl is ↦ is
+  | inl is ↦ is
   | inr closed ↦ absurd (let none : None ≡ Some h = sym (slot_of-closed bytes closed) ∙ some in cc)
-  ]
+]
 
 codec_of-id : (c : Codec) → codec_of (id_of c) ≡ Some c
 codec_of-id C8 = refl

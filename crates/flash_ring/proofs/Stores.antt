@@ -1,5 +1,5 @@
 -- What each of the four calls that store a record leaves.
-use Rattle.std.proofs.Common.{◌≡◌, ◌≢◌, ◌⊎◌, inl, inr, ℕ, ◌+◌, ◌*◌, ◌<◌, ◌≤◌, Bool, List, [], ◌∷◌, length, get_or, set, Option, Some, None, slice_get, IsTrue, sym, ◌∙◌, ap, refl, subst, arith, mul-le-mul_left}
+use Rattle.std.proofs.Common.{◌≡◌, ◌≢◌, ◌⊎◌, inl, inr, ℕ, ◌+◌, ◌*◌, ◌<◌, ◌≤◌, List, [], ◌∷◌, length, get_or, set, Option, Some, None, slice_get, sym, ◌∙◌, ap, refl, subst, arith, mul-le-mul_left}
 use Rattle.std.proofs.lemmas.Bool.Decides.{nat_tests}
 use Rattle.std.proofs.lemmas.Option.{slice_get_within}
 use Rattle.medium.specs.Content.{Content, IsImage, settled, written, after_write, after_sync}
@@ -7,8 +7,8 @@ use Rattle.medium.specs.State.{IfTold, EveryImage, TornWrite, told}
 use Rattle.medium.proofs.Images.{SameOutside, WritesWithin, image-settled, written-outside, told-map, images-written, images-torn}
 use Rattle.medium.proofs.Written.{get_or-written_there}
 use Rattle.flash_ring.specs.Held.{Held, IsSoundHeld}
-use Rattle.flash_ring.specs.Slot.{body_of, slot_of, slot_bytes, slots_of, IsFlash}
-use Rattle.flash_ring.specs.Images.{IsSettled, HoldsWith, IsEither, unchanged, changed, OthersStay, has_slot}
+use Rattle.flash_ring.specs.Slot.{body_of, slot_bytes, slots_of, IsFlash}
+use Rattle.flash_ring.specs.Images.{IsSettled, HoldsWith, IsEither, unchanged, changed, OthersStay}
 use Rattle.flash_ring.proofs.Slots.{slot_bytes-at}
 use Rattle.flash_ring.proofs.Writes.{length-body_of, body-flash, body-slots, body-outside, gate-flash, gate-slots, gate-stored, others-outside, ends}
 
@@ -42,13 +42,13 @@ module _ (n slot : ℕ) (slots : List (Option Held)) (h : Held)
     rest = was.rest;
     fits = omega (arith, ends n slot c.reads slots h was.flash was.holds low closed fits sound);
     each = λ image same0.
-      let P : ℕ → Type 0 = λ k. SameOutside k m c.reads image in
-      let Q : ℕ → Type 0 = λ k. SameOutside (272 * slot + 1) k c.reads image in
-      let same = subst Q is_m (subst P is_at same0) in
-      record {
-        flash = body-flash n slot c.reads slots was.flash was.holds low closed image same;
-        holds = unchanged (body-slots n slot c.reads slots was.flash was.holds low closed image same);
-      };
+        let P : ℕ → Type 0 = λ k. SameOutside k m c.reads image in
+        let Q : ℕ → Type 0 = λ k. SameOutside (272 * slot + 1) k c.reads image in
+        let same = subst Q is_m (subst P is_at same0) in
+        record {
+          flash = body-flash n slot c.reads slots was.flash was.holds low closed image same;
+          holds = unchanged (body-slots n slot c.reads slots was.flash was.holds low closed image same);
+        };
   }
 
   pub body_failed : (told0 told1 : Option Content) (at m : ℕ) → at ≡ 272 * slot + 1 → m ≡ 271 → IfTold told0 (IsSettled n slots) → TornWrite at m told0 told1
@@ -69,7 +69,9 @@ module _ (n slot : ℕ) (slots : List (Option Held)) (h : Held)
   has_body (Some c) told1 told2 at is_at was wrote synced =
       let P : Option Content → Type 0 = λ o. IfTold o (HasBody n slot slots h) in
       subst P (sym (synced ∙ ap (told after_sync) wrote)) (record {
-        base = c.reads; flash = was.flash; holds = was.holds;
+        base = c.reads;
+        flash = was.flash;
+        holds = was.holds;
         is = ap (λ p. settled (written 0 p (body_of h) c.reads)) is_at;
       })
 
@@ -84,14 +86,14 @@ module _ (n slot : ℕ) (slots : List (Option Held)) (h : Held)
         rest = was.is ∙ ap settled (sym reads);
         fits = omega (arith, ends n slot base slots h was.flash was.holds low closed fits sound, size);
         each = λ image same0.
-          let P : ℕ → Type 0 = λ k. SameOutside k m c.reads image in
-          let Q : ℕ → Type 0 = λ k. SameOutside (272 * slot) k c.reads image in
-          let R : List ℕ → Type 0 = λ b. SameOutside (272 * slot) 1 b image in
-          let same = subst R reads (subst Q is_m (subst P is_at same0)) in
-          record {
-            flash = gate-flash n slot base slots h was.flash was.holds low closed fits sound image same;
-            holds = either slots (set slots slot (Some h)) _ (gate-slots n slot base slots h was.flash was.holds low closed fits sound image same);
-          };
+            let P : ℕ → Type 0 = λ k. SameOutside k m c.reads image in
+            let Q : ℕ → Type 0 = λ k. SameOutside (272 * slot) k c.reads image in
+            let R : List ℕ → Type 0 = λ b. SameOutside (272 * slot) 1 b image in
+            let same = subst R reads (subst Q is_m (subst P is_at same0)) in
+            record {
+              flash = gate-flash n slot base slots h was.flash was.holds low closed fits sound image same;
+              holds = either slots (set slots slot (Some h)) _ (gate-slots n slot base slots h was.flash was.holds low closed fits sound image same);
+            };
       }
 
   module _ (told0 told1 told2 : Option Content) (at_body : ℕ) (is_at_body : at_body ≡ 272 * slot + 1) (was : IfTold told0 (IsSettled n slots))
@@ -150,10 +152,10 @@ stored_others n slot slots h low fits (Some c) told1 told2 told3 told4 at_body a
     let body = written 0 at_body (body_of h) c.reads in
     let second = written-outside at (0xA5 ∷ []) body (omega (arith, first.size)) in
     subst P (sym (done ∙ ap (told after_sync) (opened ∙ ap (told (after_write at (0xA5 ∷ []))) (synced ∙ ap (told after_sync) wrote))))
-      (λ j out.
-        let other : j ≢ slot = λ same. out (grind (arith, nat_tests)) in
-        others-outside slot at 1 body _ (omega arith) (omega arith) second j other
-        ∙ others-outside slot at_body (length (body_of h)) c.reads body (omega arith) (omega (arith, length-body_of h fits)) first j other)
+    (λ j out.
+    let other : j ≢ slot = λ same. out (grind (arith, nat_tests)) in
+    others-outside slot at 1 body _ (omega arith) (omega arith) second j other
+    ∙ others-outside slot at_body (length (body_of h)) c.reads body (omega arith) (omega (arith, length-body_of h fits)) first j other)
 
 -- The same with the bytes that were handed over, for the exits of the call.
 module _ (n slot : ℕ) (slots : List (Option Held)) (h : Held)

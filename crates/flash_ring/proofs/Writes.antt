@@ -1,15 +1,14 @@
 -- What a write of one slot's body, or of one gate, leaves of a flash.
-use Rattle.std.proofs.Common.{◌≡◌, ◌≢◌, ◌⊎◌, inl, inr, ℕ, zero, suc, ◌+◌, ◌-◌, ◌*◌, ◌<◌, ◌≤◌, ◌^◌, Bool, List, [], ◌∷◌, ◌++◌, length, get_or, set, take, drop, replicate, Option, Some, None, slice_get, sym, ◌∙◌, ap, refl, subst, arith, length-append, length-set, mul-le-mul_left, get_or-set_same, get_or-set_other}
-use Rattle.std.specs.Int.{w64, to_be_bytes}
+use Rattle.std.proofs.Common.{◌≡◌, ◌≢◌, ◌⊎◌, inl, inr, ℕ, zero, suc, ◌+◌, ◌-◌, ◌*◌, ◌<◌, ◌≤◌, List, ◌∷◌, length, get_or, set, replicate, Option, Some, None, slice_get, sym, ◌∙◌, ap, subst, arith, length-append, length-set, mul-le-mul_left, get_or-set_same, get_or-set_other}
 use Rattle.std.proofs.lemmas.Bool.{cases_lt, cases_eq}
-use Rattle.std.proofs.lemmas.List.{ext_get_or, get_or_past, set-get_or, length-replicate}
-use Rattle.std.proofs.lemmas.Option.{get_or_from_slice_get, slice_get_within}
+use Rattle.std.proofs.lemmas.List.{ext_get_or, set-get_or, length-replicate}
+use Rattle.std.proofs.lemmas.Option.{get_or_from_slice_get}
 use Rattle.medium.specs.Content.{written}
 use Rattle.medium.proofs.Images.{SameOutside, written-outside}
 use Rattle.medium.proofs.Written.{get_or-written_there}
 use Rattle.flash_ring.specs.Held.{Held, IsSoundHeld}
 use Rattle.flash_ring.specs.Slot.{body_of, slot_of, HoldsSound, IsSoundSlot, slot_bytes, slots_of, IsFlash}
-use Rattle.flash_ring.proofs.Slots.{length-slots_of, slots_of-at, slots_of-is, slot_bytes-at, length-slot_bytes, slot_bytes-same, slot_of-closed, slot_of-open, gate-closed, slot_of-layout}
+use Rattle.flash_ring.proofs.Slots.{length-slots_of, slots_of-at, slots_of-is, slot_bytes-at, length-slot_bytes, slot_bytes-same, slot_of-closed, gate-closed, slot_of-layout}
 
 -- One slot of a flash has changed.
 module _ (n slot : ℕ) (base image : List ℕ) (slots : List (Option Held))
@@ -21,8 +20,8 @@ module _ (n slot : ℕ) (base image : List ℕ) (slots : List (Option Held))
   flash-set = record {
     size = size ∙ flash.size;
     sound = λ k low_k. elim (cases_eq k slot) as (λ _. IsSoundSlot (slot_bytes k image)) [
-      inl same ↦ let P : ℕ → Type 0 = λ j. IsSoundSlot (slot_bytes j image) in subst P (sym same) sound
-    | inr other ↦ subst IsSoundSlot (sym (others k low_k other)) (flash.sound k low_k)
+      | inl same ↦ let P : ℕ → Type 0 = λ j. IsSoundSlot (slot_bytes j image) in subst P (sym same) sound
+      | inr other ↦ subst IsSoundSlot (sym (others k low_k other)) (flash.sound k low_k)
     ];
   }
 
@@ -30,22 +29,22 @@ module _ (n slot : ℕ) (base image : List ℕ) (slots : List (Option Held))
   slots-set x is =
       let count : length slots ≡ n = ap length (sym holds) ∙ length-slots_of n base in
       slots_of-is n image (set slots slot x) (length-set slots slot x ∙ count) (λ k low_k.
-        elim (cases_eq k slot) as (λ _. slot_of (slot_bytes k image) ≡ get_or (set slots slot x) k None) [
-          inl same ↦
+      elim (cases_eq k slot) as (λ _. slot_of (slot_bytes k image) ≡ get_or (set slots slot x) k None) [
+        | inl same ↦
             ap (λ j. slot_of (slot_bytes j image)) same ∙ is
             ∙ sym (get_or-set_same slots slot x None (omega arith)) ∙ ap (λ j. get_or (set slots slot x) j None) (sym same)
         | inr other ↦
             ap slot_of (others k low_k other) ∙ sym (slots_of-at n k base None low_k) ∙ ap (λ (s : List (Option Held)). get_or s k None) holds
             ∙ sym (get_or-set_other slots slot k x None other)
-        ])
+      ])
 
 -- the other slots where a range within one slot may have changed
 pub others-outside : (slot at n : ℕ) (base image : List ℕ) → 272 * slot ≤ at → at + n ≤ 272 * slot + 272 → SameOutside at n base image
     → (j : ℕ) → j ≢ slot → slot_bytes j image ≡ slot_bytes j base
 others-outside slot at n base image from to same j other =
     slot_bytes-same j image base same.size (λ p low. same.same (272 * j + p) (elim (cases_lt j slot) as (λ _. (272 * j + p < at) ⊎ (at + n ≤ 272 * j + p)) [
-      inl before ↦ inl (omega arith)
-    | inr behind ↦ let above : slot < j = omega arith in inr (omega arith)
+      | inl before ↦ inl (omega arith)
+      | inr behind ↦ let above : slot < j = omega arith in inr (omega arith)
     ]))
 
 -- A slot that is closed holds nothing, and its gate is closed.
@@ -123,11 +122,11 @@ module _ (n slot : ℕ) (base : List ℕ) (slots : List (Option Held)) (h : Held
     opened gate =
         let size = length-body_of h fits in
         front-same 0xA5 (body_of h) (slot_bytes slot image) (omega (arith, length-slot_bytes slot image, gate_size, ends)) gate (λ p low.
-          let at : 272 * slot + (1 + p) ≡ 272 * slot + 1 + p = omega arith in
-          slot_bytes-at slot (1 + p) image (omega arith)
-          ∙ same.same (272 * slot + (1 + p)) (inr (omega arith))
-          ∙ ap (λ q. get_or (written 0 (272 * slot + 1) (body_of h) base) q 0) at
-          ∙ get_or-written_there 0 (272 * slot + 1) (body_of h) base p low)
+        let at : 272 * slot + (1 + p) ≡ 272 * slot + 1 + p = omega arith in
+        slot_bytes-at slot (1 + p) image (omega arith)
+        ∙ same.same (272 * slot + (1 + p)) (inr (omega arith))
+        ∙ ap (λ q. get_or (written 0 (272 * slot + 1) (body_of h) base) q 0) at
+        ∙ get_or-written_there 0 (272 * slot + 1) (body_of h) base p low)
 
     gate-holds : get_or (slot_bytes slot image) 0 0 ≡ 0xA5 → slot_of (slot_bytes slot image) ≡ Some h
     gate-holds gate = ap slot_of (opened gate) ∙ slot_of-layout h fits (omega (arith, sound.0))
@@ -143,6 +142,6 @@ module _ (n slot : ℕ) (base : List ℕ) (slots : List (Option Held)) (h : Held
 
     pub gate-slots : (slots_of n image ≡ slots) ⊎ (slots_of n image ≡ set slots slot (Some h))
     gate-slots = elim (cases_eq (get_or (slot_bytes slot image) 0 0) 0xA5) as (λ _. (slots_of n image ≡ slots) ⊎ (slots_of n image ≡ set slots slot (Some h))) [
-        inl gate ↦ inr (gate-stored gate)
+      | inl gate ↦ inr (gate-stored gate)
       | inr shut ↦ inl (slots-set n slot base image slots flash holds low gate_size gate_others gate_sound None (slot_of-closed (slot_bytes slot image) shut) ∙ set-none n slot base slots flash holds low closed)
-      ]
+    ]

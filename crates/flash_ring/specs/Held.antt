@@ -1,5 +1,5 @@
 -- What a slot of the flash holds, as the layers above see it.
-use Rattle.std.specs.Prelude.{◌≡◌, ℕ, suc, ◌+◌, ◌<◌, ◌^◌, max, Bool, true, false, List, [], ◌∷◌, Option, Some, None, set, slice_get}
+use Rattle.std.specs.Prelude.{◌≡◌, ◌⊎◌, ℕ, suc, ◌+◌, ◌<◌, ◌^◌, max, Bool, true, false, List, [], ◌∷◌, Option, Some, None, set, slice_get}
 use Rattle.avl_values.specs.Record.{Record}
 use Rattle.record_codecs.specs.SomeRecord.{IsSomeRecord}
 
@@ -59,3 +59,9 @@ rec_in (Some (Some h)) = Some h.rec
 
 abbrev pub rec_at : List (Option Held) → ℕ → Option Record
 rec_at slots k = rec_in (slice_get slots k)
+
+-- a list is a part of another, in order
+abbrev pub IsPart : {A : Type 0} → List A → List A → Type 0
+IsPart [] ys = Unit {0}
+IsPart (x ∷ xs) [] = ⊥
+IsPart (x ∷ xs) (y ∷ ys) = ((x ≡ y) × IsPart xs ys) ⊎ IsPart (x ∷ xs) ys

@@ -1,7 +1,7 @@
 -- How a record lies in a slot of the flash, 272 bytes (this project's own): gate (1 byte), codec id (1), record length (1),
 -- sequence (8), record (255), unused (6). The gate is open exactly where it is A5. Bytes past the record's length are
 -- written as zero.
-use Rattle.std.specs.Prelude.{◌≡◌, ℕ, ◌+◌, ◌-◌, ◌*◌, ◌<◌, ◌==◌, if◌then◌else◌, List, [], ◌∷◌, ◌++◌, length, get_or, take, drop, replicate, map, Option, Some, None}
+use Rattle.std.specs.Prelude.{◌≡◌, ℕ, ◌-◌, ◌*◌, ◌<◌, ◌==◌, if◌then◌else◌, List, ◌∷◌, ◌++◌, length, get_or, take, drop, replicate, map, Option, Some, None}
 use Rattle.std.specs.Int.{w64, to_be_bytes, from_be_bytes}
 use Rattle.std.specs.List.{range_with_len}
 use Rattle.avl_values.specs.declared.codec.Codec.{Codec}

@@ -8,7 +8,11 @@ use avl_values::Failed;
 use medium::Medium;
 
 /// Closes slots, each by a write of its gate, in the order given. They are durable together.
-pub fn close_slots<M: Medium>(medium: &mut M, held: &[Option<Held>], slots: &[u16]) -> Result<(), Failed>
+pub fn close_slots<M: Medium>(
+    medium: &mut M,
+    held: &[Option<Held>],
+    slots: &[u16],
+) -> Result<(), Failed>
     requires ready { 272 * length held.now ≤ (M.state medium.old).ready }
     requires settled { IfTold (M.state medium.old).content (IsSettled (length held.now) held.now) }
     requires opens { AreOpen slots.now held.now }
@@ -18,8 +22,8 @@ pub fn close_slots<M: Medium>(medium: &mut M, held: &[Option<Held>], slots: &[u1
     ensures others { OnOk result (OthersStay slots.now (M.state medium.old).content (M.state medium.new).content) }
     ensures counted { Counted (length slots.now + 1) (M.state medium.old) (M.state medium.new) (IsErr result) }
 {
-    for slot in slots {
-        medium.write(272 * *slot as u64, &[CLOSED])?;
+    for i in 0..slots.len() {
+        medium.write(272 * slots[i] as u64, &[CLOSED])?;
     }
     medium.sync()?;
     Ok(())

@@ -5,21 +5,21 @@ ghost use Rattle.medium.specs.CallsLeft.{Fails, after, unlimited};
 ghost use Rattle.medium.specs.Content.{settled};
 ghost use Rattle.medium.specs.State.{Counted, EveryImage, IfTold, WasImage};
 ghost use Rattle.record_codecs.specs.SomeRecord.{IsSomeRecord};
-ghost use Rattle.flash_ring.specs.Entries.{IsOldest, held_of, selected, with_room};
+ghost use Rattle.flash_ring.specs.Entries.{IsOldest, entries_of, first_slot, held_of, selected, with_room};
 ghost use Rattle.flash_ring.specs.Held.{closed_all, first_closed, is_full, next_of, put_in, rec_at};
 ghost use Rattle.flash_ring.specs.Images.{AreDistinct, AreOpen, IsEither, MayClose, OthersStay, reached};
 ghost use Rattle.flash_ring.specs.Refusal.{Refuses, RefusesOpen};
 ghost use Rattle.flash_ring.specs.Ring.{CountedSome, EachHolds, EverySound, IsDurable, MayHold, put_calls, room_calls};
 ghost use Rattle.flash_ring.specs.Slot.{slots_of};
 
-use crate::close::close_slots;
-use crate::held::Held;
-use crate::format::format;
-use crate::load::{OpenFault, ReopenFault, closed_slots, load_all, open_fault};
 use crate::Order;
+use crate::close::close_slots;
+use crate::format::format;
+use crate::held::Held;
+use crate::load::{OpenFault, ReopenFault, closed_slots, load_all, open_fault};
 use crate::rank::{count_open, oldest_slot, select};
-use arrayvec::ArrayVec;
 use crate::store::store;
+use arrayvec::ArrayVec;
 use avl_values::{Failed, MediumFault, NoMemory, Rec};
 use medium::{Bench, Medium, ReserveError, Tear};
 use std::alloc::Global;
@@ -319,6 +319,7 @@ impl<M: Medium> Ring<M> {
         ensures room { OnOk result (self.new ≡ record self.old { medium = self.new.medium; slots = with_room self.old.slots }) }
         ensures has_room { OnOk result (is_full self.new.slots ≡ false) }
         ensures durable { OnOk result (IsDurable self.new) }
+        ensures others { OnOk result (OthersStay (first_slot (entries_of Order.Oldest self.old.slots) ∷ []) self.old.medium.content self.new.medium.content) }
 
         // At every exit, and so at each moment of the call, a power loss leaves the slots before or those after.
         ensures images { EachHolds self.new (IsEither self.old.slots (with_room self.old.slots)) }
@@ -339,6 +340,8 @@ impl<M: Medium> Ring<M> {
     pub fn select(&self, order: Order, room: u16) -> ArrayVec<u16, 255>
         requires { self.now.down ≡ false }
         ensures batch { result.items ≡ selected order room self.now.slots }
+        ensures opens { AreOpen result.items self.now.slots }
+        ensures distinct { AreDistinct result.items }
         ensures durable { self.now.down ≡ false → IsDurable self.now }
     {
         select(&self.slots, order, room)

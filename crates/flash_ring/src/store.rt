@@ -8,7 +8,12 @@ use avl_values::Failed;
 use medium::Medium;
 
 /// Stores a record in a closed slot: its body is durable before its gate is opened.
-pub fn store<M: Medium>(medium: &mut M, slots: &[Option<Held>], slot: u16, held: &Held) -> Result<(), Failed>
+pub fn store<M: Medium>(
+    medium: &mut M,
+    slots: &[Option<Held>],
+    slot: u16,
+    held: &Held,
+) -> Result<(), Failed>
     requires ready { 272 * slot + 272 ≤ (M.state medium.old).ready }
     requires settled { IfTold (M.state medium.old).content (IsSettled (length slots.now) slots.now) }
     requires closed { slice_get slots.now slot ≡ Some None }

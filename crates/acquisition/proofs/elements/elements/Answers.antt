@@ -1,4 +1,4 @@
-use Rattle.std.proofs.Common.{◌++◌, length, arith, ap, refl}
+use Rattle.std.proofs.Common.{◌++◌, length, arith, ap}
 use Rattle.acquisition.specs.Elements.{elements}
 use Rattle.acquisition.proofs.Together.{fit_together}
 use Rattle.acquisition.proofs.elements.elements.Goals as goal

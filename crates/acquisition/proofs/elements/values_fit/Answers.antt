@@ -1,4 +1,4 @@
-use Rattle.std.proofs.Common.{arith, rules}
+use Rattle.std.proofs.Common.{arith}
 use Rattle.acquisition.proofs.Together.{fit_together}
 use Rattle.acquisition.proofs.elements.values_fit.Goals as goal
 

@@ -1,4 +1,4 @@
-use Rattle.std.proofs.Common.{◌≡◌, ◌≤◌, length, drop}
+use Rattle.std.proofs.Common.{◌≤◌, length, drop}
 use Rattle.acquisition.proofs.Together.{FiredSoFar}
 use Rattle.acquisition.proofs.firing.fired.Given as goal
 

@@ -1,9 +1,7 @@
 use Rattle.std.proofs.Common.{◌≡◌, ◌+◌, ◌*◌, ◌≤◌, drop}
-use Rattle.avl_values.specs.Width.{bytes_of}
 use Rattle.record_writing.specs.Length.{shortest_length}
 use Rattle.std.specs.List.{sum_by}
 use Rattle.io_operands.specs.declared.setting.IoSetting.{IoSetting}
-use Rattle.acquisition.specs.Checking.{full_length}
 use Rattle.acquisition.proofs.settings.full_length.Given as goal
 
 abbrev pub invariant-loop-s : goal.invariant-loop-s

@@ -3,9 +3,9 @@ use Rattle.medium.specs.State.{Counted}
 use Rattle.flash_ring.proofs.Closes.{Shut}
 use Rattle.flash_ring.proofs.close.close_slots.Given as goal
 
-abbrev pub invariant-loop-slot : goal.invariant-loop-slot
-invariant-loop-slot g l =
+abbrev pub invariant-loop-i : goal.invariant-loop-i
+invariant-loop-i g l =
     record {
-      counted : Counted l.slot-index (g.M.Medium.state l.initial.medium) (g.M.Medium.state l.medium) ⊥;
-      shut : Shut (length l.held) l.held (take l.slot-index l.slots) (g.M.Medium.state l.initial.medium).content (g.M.Medium.state l.medium).content;
+      counted : Counted l.i (g.M.Medium.state l.initial.medium) (g.M.Medium.state l.medium) ⊥;
+      shut : Shut (length l.held) l.held (take l.i l.slots) (g.M.Medium.state l.initial.medium).content (g.M.Medium.state l.medium).content;
     }

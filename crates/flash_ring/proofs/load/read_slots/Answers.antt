@@ -1,5 +1,5 @@
 -- Each slot is read as its bytes stand.
-use Rattle.std.proofs.Common.{◌≡◌, ◌+◌, ◌∙◌, length, refl, arith, rules}
+use Rattle.std.proofs.Common.{◌+◌, ◌∙◌, length, refl, arith, rules}
 use Rattle.std.proofs.lemmas.Bool.{false≢true}
 use Rattle.medium.proofs.Images.{counted-then, counted-as}
 use Rattle.flash_ring.proofs.Loads.{read-more, read-bad, read-sound, read-whole}
@@ -21,7 +21,7 @@ pub returns-in-Err-clause-refused : goal.returns-in-Err-clause-refused
 returns-in-Err-clause-refused g c =
     let inv = c.loop-slot.invariant in
     read-bad (length c.args.slots.now) c.loop-slot.slot c.in_ok-read.field-0 c.read.new.into c.loop-slot.slots (omega arith) c.loop-slot.auto.slots (c.read.auto.into) _ _ inv.has_read inv.content
-      c.in_ok-read.ensures.count c.in_ok-read.ensures.bytes c.in-Err.ensures.unsound
+    c.in_ok-read.ensures.count c.in_ok-read.ensures.bytes c.in-Err.ensures.unsound
 
 pub loop-slot-preserved : goal.loop-slot-preserved
 loop-slot-preserved g c =
@@ -30,7 +30,7 @@ loop-slot-preserved g c =
       counted = counted-then inv.counted (counted-as refl (λ f. absurd f) false≢true c.in_ok-read.ensures.counted);
       content = c.in_ok-read.ensures.content ∙ inv.content;
       has_read = read-more (length c.args.slots.now) c.loop-slot.slot c.in_ok-read.field-0 c.read.new.into c.loop-slot.slots (omega arith) c.loop-slot.auto.slots (c.read.auto.into) _ _ inv.has_read inv.content
-        c.in_ok-read.ensures.count c.in_ok-read.ensures.bytes _ c.in-Ok.ensures.holds c.in-Ok.ensures.sound;
+          c.in_ok-read.ensures.count c.in_ok-read.ensures.bytes _ c.in-Ok.ensures.holds c.in-Ok.ensures.sound;
     }
 
 pub returns-clause-sound : goal.returns-clause-sound

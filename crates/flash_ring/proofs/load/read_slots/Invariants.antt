@@ -1,4 +1,4 @@
-use Rattle.std.proofs.Common.{◌≡◌, ◌<◌, ℕ, length, get_or, None}
+use Rattle.std.proofs.Common.{◌≡◌}
 use Rattle.medium.specs.State.{Counted}
 use Rattle.flash_ring.proofs.load.read_slots.Given as goal
 use Rattle.flash_ring.proofs.Loads.{HasRead}

@@ -1,5 +1,5 @@
 -- Each slot is one of the ring's, and is closed behind those before.
-use Rattle.std.proofs.Common.{◌≡◌, ◌<◌, ◌++◌, ◌∷◌, [], ℕ, List, length, get_or, take, set, None, Option, ap, sym, ◌∙◌, subst, arith}
+use Rattle.std.proofs.Common.{ℕ, List, length, get_or, take, set, None, Option, ap, sym, ◌∙◌, arith}
 use Rattle.std.proofs.lemmas.List.{take_more}
 use Rattle.flash_ring.specs.Held.{Held, closed_all}
 use Rattle.flash_ring.proofs.Closes.{slot-low, closed_all-push, length-closed_all}

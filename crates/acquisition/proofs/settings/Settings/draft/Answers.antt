@@ -1,8 +1,6 @@
-use Rattle.std.proofs.Common.{◌≡◌, ◌+◌, ◌≤◌, [], sym, ap, subst, ◌∙◌, arith}
-use Rattle.avl_values.specs.RecordValue.{value_of}
-use Rattle.avl_values.specs.Codec.{id_of}
+use Rattle.std.proofs.Common.{◌≡◌, ap, subst, ◌∙◌}
 use Rattle.acquisition.specs.Checked.{AreChecked}
-use Rattle.acquisition.specs.Elements.{ValuesFit, elements}
+use Rattle.acquisition.specs.Elements.{elements}
 use Rattle.acquisition.specs.Made.{in_codec}
 use Rattle.acquisition.specs.Settings.{AcquisitionSettings}
 use Rattle.acquisition.proofs.SettingLaws.{checked}

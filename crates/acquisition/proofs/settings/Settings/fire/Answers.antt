@@ -1,6 +1,6 @@
-use Rattle.std.proofs.Common.{◌≡◌, length, sym, ap, subst, ◌∙◌, arith}
+use Rattle.std.proofs.Common.{length, sym, ap, subst, ◌∙◌, arith}
 use Rattle.acquisition.specs.Checked.{AreChecked, AreNarrow}
-use Rattle.acquisition.specs.Firing.{fired, remembered, seen, watched_by}
+use Rattle.acquisition.specs.Firing.{fired, remembered, seen}
 use Rattle.acquisition.specs.Settings.{AcquisitionSettings}
 use Rattle.acquisition.proofs.FiringLaws.{fired_narrow, remembered_watched, seen_watched, watched_length}
 use Rattle.acquisition.proofs.SettingLaws.{checked}

@@ -1,5 +1,5 @@
 -- The ring is what the four calls left.
-use Rattle.std.proofs.Common.{◌≡◌, ◌+◌, ◌*◌, ◌≤◌, ◌∙◌, List, length, set, Option, Some, None, ap, sym, subst, refl, arith, mul-le-mul_left}
+use Rattle.std.proofs.Common.{◌+◌, ◌*◌, ◌≤◌, ◌∙◌, List, length, set, Option, Some, None, ap, sym, subst, refl, arith, mul-le-mul_left}
 use Rattle.std.proofs.lemmas.Option.{slice_get_within}
 use Rattle.avl_values.specs.Record.{Record}
 use Rattle.record_codecs.specs.SomeRecord.{IsSomeRecord}
@@ -41,7 +41,7 @@ invariant_of-self-2 g c =
     let h : Held = record { seq = c.self.inside.next; rec = record_of c.copy.result } in
     let P : List (Option Held) → Type 0 = λ s. IfTold (g.M.Medium.state c.store.new.medium).content (IsSettled (length s) (set s c.in-Some.slot (Some h))) in
     ring-stored _ _ c.in-Some.slot _ c.self.invariant up refl c.if-self.false (omega arith, subst Q (sym c.copy.ensures) c.requires.is_record) c.store.ensures.counted.ready
-      (subst P c.deref-2.ensures.value (passed c.store.result c.is_err.result c.is_err.ensures.value c.if-is_err.false c.store.ensures.settled))
+    (subst P c.deref-2.ensures.value (passed c.store.result c.is_err.result c.is_err.ensures.value c.if-is_err.false c.store.ensures.settled))
 
 pub returns-clause-durable : goal.returns-clause-durable
 returns-clause-durable g c =
@@ -50,4 +50,4 @@ returns-clause-durable g c =
     let h : Held = record { seq = c.self.inside.next; rec = record_of c.copy.result } in
     let P : List (Option Held) → Type 0 = λ s. IfTold (g.M.Medium.state c.store.new.medium).content (IsSettled (length s) (set s c.in-Some.slot (Some h))) in
     durable_up _ ((ring-stored _ _ c.in-Some.slot _ c.self.invariant up refl c.if-self.false (omega arith, subst Q (sym c.copy.ensures) c.requires.is_record) c.store.ensures.counted.ready
-      (subst P c.deref-2.ensures.value (passed c.store.result c.is_err.result c.is_err.ensures.value c.if-is_err.false c.store.ensures.settled))).up up) up
+    (subst P c.deref-2.ensures.value (passed c.store.result c.is_err.result c.is_err.ensures.value c.if-is_err.false c.store.ensures.settled))).up up) up

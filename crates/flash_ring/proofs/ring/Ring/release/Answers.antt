@@ -1,5 +1,5 @@
 -- The ring is what the calls left.
-use Rattle.std.proofs.Common.{◌∙◌, List, Option, ap, length, subst, sym, refl}
+use Rattle.std.proofs.Common.{◌∙◌, List, Option, ap, length, subst}
 use Rattle.medium.specs.State.{IfTold}
 use Rattle.flash_ring.specs.Held.{Held, closed_all}
 use Rattle.flash_ring.specs.Images.{IsSettled}
@@ -12,11 +12,11 @@ invariant_of-self-2 g c =
     let up = ap (λ (v : RingView). v.down) c.self.view_is ∙ c.requires.up in
     let P : List (Option Held) → Type 0 = λ s. IfTold (g.M.Medium.state c.close_slots.new.medium).content (IsSettled (length s) (closed_all c.args.slots.now s)) in
     ring-closed _ _ c.args.slots.now _ c.self.invariant up c.close_all.ensures c.close_slots.ensures.counted.ready
-      (subst P c.deref.ensures.value (passed c.close_slots.result c.is_err.result c.is_err.ensures.value c.if-is_err.false c.close_slots.ensures.settled))
+    (subst P c.deref.ensures.value (passed c.close_slots.result c.is_err.result c.is_err.ensures.value c.if-is_err.false c.close_slots.ensures.settled))
 
 pub returns-clause-durable : goal.returns-clause-durable
 returns-clause-durable g c =
     let up = ap (λ (v : RingView). v.down) c.self.view_is ∙ c.requires.up in
     let P : List (Option Held) → Type 0 = λ s. IfTold (g.M.Medium.state c.close_slots.new.medium).content (IsSettled (length s) (closed_all c.args.slots.now s)) in
     durable_up _ ((ring-closed _ _ c.args.slots.now _ c.self.invariant up c.close_all.ensures c.close_slots.ensures.counted.ready
-      (subst P c.deref.ensures.value (passed c.close_slots.result c.is_err.result c.is_err.ensures.value c.if-is_err.false c.close_slots.ensures.settled))).up up) up
+    (subst P c.deref.ensures.value (passed c.close_slots.result c.is_err.result c.is_err.ensures.value c.if-is_err.false c.close_slots.ensures.settled))).up up) up

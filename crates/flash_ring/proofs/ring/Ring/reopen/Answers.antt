@@ -10,11 +10,11 @@ next_after-self-inside-requires g c = next_fits c.deref.result.now c.load_all.ne
 pub invariant_of-self-2 : goal.invariant_of-self-2
 invariant_of-self-2 g c =
     ring-loaded _ c.load_all.new.slots.items _ _ c.self.invariant.some c.self.invariant.few c.load_all.ensures.size
-      (let enough = c.self.invariant.ready in let later = c.load_all.ensures.counted.counted.ready in omega arith) c.in_ok-load_all.ensures.settled c.in_ok-load_all.ensures.sound
-      (c.next_after-self-inside.ensures ∙ ap next_of c.deref.ensures.value)
+    (let enough = c.self.invariant.ready in let later = c.load_all.ensures.counted.counted.ready in omega arith) c.in_ok-load_all.ensures.settled c.in_ok-load_all.ensures.sound
+    (c.next_after-self-inside.ensures ∙ ap next_of c.deref.ensures.value)
 
 pub returns-clause-durable : goal.returns-clause-durable
 returns-clause-durable g c =
     durable_up _ ((ring-loaded _ c.load_all.new.slots.items _ _ c.self.invariant.some c.self.invariant.few c.load_all.ensures.size
-      (let enough = c.self.invariant.ready in let later = c.load_all.ensures.counted.counted.ready in omega arith) c.in_ok-load_all.ensures.settled c.in_ok-load_all.ensures.sound
-      (c.next_after-self-inside.ensures ∙ ap next_of c.deref.ensures.value)).up refl) refl
+    (let enough = c.self.invariant.ready in let later = c.load_all.ensures.counted.counted.ready in omega arith) c.in_ok-load_all.ensures.settled c.in_ok-load_all.ensures.sound
+    (c.next_after-self-inside.ensures ∙ ap next_of c.deref.ensures.value)).up refl) refl
