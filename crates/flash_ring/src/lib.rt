@@ -14,6 +14,3 @@ mod store;
 pub use load::{OpenFault, ReopenFault};
 pub use order::Order;
 pub use ring::{PutFault, Ring};
-
-#[cfg(test)]
-mod tests;
