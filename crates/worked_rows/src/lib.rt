@@ -1,0 +1,6 @@
+//! Worked rows that take several crates: a flash ring over media in memory, under power loss and failing calls. It has tests
+//! alone, so that the crates below aren't proved once more for them.
+#![tactic(auto)]
+
+#[cfg(test)]
+mod flash;
