@@ -48,6 +48,7 @@ impl Acquirer {
         }
     }
 
+    /// The settings that it decides by.
     pub fn settings(&self) -> &Settings
         ensures { result.now ≡ self.now.settings }
     {

@@ -26,6 +26,7 @@ use io_operands::{IoSetting, Watch};
 use record_writing::write_record;
 
 impl LastFix {
+    /// What is kept of a fix that made a record.
     pub fn of(fix: &Fix) -> LastFix
         ensures { result ≡ last_of fix.now }
     {

@@ -82,6 +82,7 @@ impl Settings {
         values_fit(self.ios.as_slice(), fix.values.as_slice())
     }
 
+    /// The codec of the records that these settings make.
     pub fn codec(&self) -> Codec
         ensures { result ≡ self.now.codec }
     {

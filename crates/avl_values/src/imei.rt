@@ -54,6 +54,7 @@ impl Imei {
         }
     }
 
+    /// The fifteen digits as a number, below 10^15.
     pub fn number(&self) -> u64
         ensures value { result ≡ self.now }
         ensures bound { result < 10 ^ 15 }

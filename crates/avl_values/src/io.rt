@@ -46,12 +46,14 @@ impl Io {
         }
     }
 
+    /// The AVL id of the element. Codec 8 spells ids up to 255 only.
     pub fn id(&self) -> u16
         ensures { result ≡ self.now.id }
     {
         self.id
     }
 
+    /// The width of the value, in bytes: 1, 2, 4 or 8.
     pub fn width(&self) -> Width
         ensures { result ≡ self.now.width }
     {

@@ -25,6 +25,7 @@ impl Model for NxList {
 }
 
 impl NxList {
+    /// No element yet.
     pub fn new() -> NxList
         ensures { result ≡ [] }
     {
@@ -49,12 +50,14 @@ impl NxList {
         true
     }
 
+    /// How many elements stand in it.
     pub fn len(&self) -> usize
         ensures { result ≡ length self.now }
     {
         self.heads.len()
     }
 
+    /// The AVL id of the element at a place, counted from 0.
     pub fn id_at(&self, i: usize) -> u16
         requires { i < length self.now }
         ensures { result ≡ (slice_index_or self.now i (0, [])).0 }
@@ -62,6 +65,7 @@ impl NxList {
         self.heads.as_slice()[i].0
     }
 
+    /// The value of the element at a place, counted from 0.
     pub fn bytes_at(&self, i: usize) -> &[u8]
         requires { i < length self.now }
         ensures { result.now ≡ (slice_index_or self.now i (0, [])).1 }

@@ -46,18 +46,21 @@ impl RecList {
         items
     }
 
+    /// How many records stand in it.
     pub fn len(&self) -> usize
         ensures { result ≡ length self.now }
     {
         self.items.len()
     }
 
+    /// Whether no record stands in it.
     pub fn is_empty(&self) -> bool
         ensures { IsTrue result ↔ (self.now ≡ []) }
     {
         self.items.is_empty()
     }
 
+    /// The records, in order.
     pub fn as_slice(&self) -> &[Rec]
         ensures { records_of result.now ≡ self.now }
     {

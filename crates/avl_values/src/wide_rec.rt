@@ -29,12 +29,14 @@ impl WideRec {
         Ok(WideRec { codec, bytes })
     }
 
+    /// The codec that spells the record.
     pub fn codec(&self) -> Codec
         ensures { result ≡ self.now.codec }
     {
         self.codec
     }
 
+    /// The bytes of the record.
     pub fn bytes(&self) -> &[u8]
         ensures { result.now ≡ self.now.bytes }
     {

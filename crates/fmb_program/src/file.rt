@@ -12,6 +12,7 @@ pub struct FileText<R> {
 }
 
 impl<R: Read + Drop> FileText<R> {
+    /// The text of a reader, of which nothing was read and nothing failed yet.
     pub fn new(reader: R) -> FileText<R>
         ensures { result.faults ≡ 0 }
     {

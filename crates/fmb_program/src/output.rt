@@ -13,6 +13,7 @@ pub struct Output<W> {
 }
 
 impl<W: Write + Drop> Output<W> {
+    /// The sink of a writer. No call failed yet.
     pub fn new(writer: W) -> Output<W> {
         Output { writer, faults: 0 }
     }

@@ -33,6 +33,7 @@ impl Watch {
         }
     }
 
+    /// The I/O setting that it watches.
     pub fn setting(&self) -> IoSetting
         ensures { result ≡ self.now.setting }
     {

@@ -55,12 +55,14 @@ impl Image {
         Ok(())
     }
 
+    /// How many bytes the image has.
     pub fn len(&self) -> usize
         ensures { result ≡ length self.now.bytes }
     {
         self.len
     }
 
+    /// The bytes of the image, from place 0.
     pub fn as_slice(&self) -> &[u8]
         ensures { result.now ≡ self.now.bytes }
     {

@@ -57,6 +57,7 @@ impl MemoryContent {
         })
     }
 
+    /// The end, in bytes, up to which a write takes no memory.
     pub fn ready(&self) -> u64
         ensures value { result ≡ self.now.ready }
         ensures most { result ≤ 2 ^ 62 }
@@ -81,12 +82,14 @@ impl MemoryContent {
         Ok(())
     }
 
+    /// How many bytes a read sees.
     pub fn len(&self) -> u64
         ensures { result ≡ length self.now.content.reads }
     {
         self.reads.len() as u64
     }
 
+    /// The bytes that a read sees, from place 0.
     pub fn as_slice(&self) -> &[u8]
         ensures { result.now ≡ self.now.content.reads }
     {

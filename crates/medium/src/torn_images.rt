@@ -37,6 +37,7 @@ impl TornImages {
         }
     }
 
+    /// The image that a power loss leaves where torn bytes read as 0.
     pub fn zero(&self) -> &Image
         ensures bytes { result.now.bytes ≡ self.now.tears.zero }
         ensures room { self.now.room ≤ result.now.room }
@@ -44,6 +45,7 @@ impl TornImages {
         &self.zero
     }
 
+    /// The image that a power loss leaves where torn bytes read as open gates.
     pub fn opened(&self) -> &Image
         ensures bytes { result.now.bytes ≡ self.now.tears.opened }
         ensures room { self.now.room ≤ result.now.room }
@@ -51,6 +53,7 @@ impl TornImages {
         &self.opened
     }
 
+    /// The image that a power loss leaves where a write took effect by half.
     pub fn half(&self) -> &Image
         ensures bytes { result.now.bytes ≡ self.now.tears.half }
         ensures room { self.now.room ≤ result.now.room }
