@@ -1,5 +1,5 @@
 //! Bodies judged and read: those that Teltonika prints for the three codecs, and the first faults of small ones.
-ghost use Rattle.std.specs.Prelude.{◌≡◌, ◌<◌, length};
+ghost use Rattle.std.specs.Prelude.{◌≡◌, ◌+◌, ◌<◌, length};
 
 use crate::{PacketHead, RecordMachine, Scan, is_record, read_packet, records, scan, view};
 use avl_values::{Codec, Fault, FaultKind, Gps, Io, Width};
@@ -96,37 +96,65 @@ fn first_faults(rt: HostRuntime) -> Result<(), Fail> {
     Ok(())
 }
 
-/// Pushes a body into a machine up to the verdict, beside `scan` of the bytes so far. How often it answered More, and the verdict.
-fn both<L: Ledger>(rt: &impl Abort, body: &[u8], blank: Blank) -> (usize, Scan)
+/// How often a machine answered More, how many steps it took, and its last answer.
+#[derive(Drop)]
+struct Judged {
+    more: usize,
+    steps: usize,
+    verdict: Scan,
+}
+
+/// Pushes a body into a machine up to the verdict, beside `scan` of the bytes so far. It counts the steps, of which the count
+/// that takes no bytes tells the same.
+fn pushed<L: Ledger>(rt: &impl Abort, body: &[u8], steps: &mut Steps<L>) -> Judged
+    requires length { (0 < length body.now) × (length body.now < 1000) }
+    ensures counted { steps.new ≡ steps.old + result.steps }
+{
+    let total = body.len() as u32;
+    let mut machine = RecordMachine::new(total);
+    for i in 0..body.len() {
+        let verdict = machine.push(body[i], steps);
+        assert_eq!(rt; verdict, scan(&body[..i + 1], total));
+        match verdict {
+            Scan::More => {}
+            verdict => {
+                return Judged {
+                    more: i,
+                    steps: i + 1,
+                    verdict,
+                }
+            }
+        }
+    }
+    Judged {
+        more: body.len(),
+        steps: body.len(),
+        verdict: Scan::More,
+    }
+}
+
+fn both<L: Ledger>(rt: &impl Abort, body: &[u8], blank: Blank) -> Judged
     requires name { blank.name ≡ L.name }
     requires parts { blank.parts ≡ L.parts }
     requires some { 0 < blank.parts }
     requires length { (0 < length body.now) × (length body.now < 1000) }
 {
-    let total = body.len() as u32;
     let mut steps = Steps::<L>::new(blank);
-    let mut machine = RecordMachine::new(total);
-    for i in 0..body.len() {
-        let answer = machine.push(body[i], &mut steps);
-        assert_eq!(rt; answer, scan(&body[..i + 1], total));
-        match answer {
-            Scan::More => {}
-            verdict => return (i, verdict),
-        }
-    }
-    (body.len(), Scan::More)
+    pushed(rt, body, &mut steps)
 }
 
 #[test]
 fn machine_answers_what_scan_does(rt: HostRuntime) -> Result<(), Fail> {
     assert!(rt; size_of::<RecordMachine>() <= 128);
-    let whole = Scan::Whole(PacketHead {
-        codec: Codec::C8E,
-        count: 1,
-    });
+    let judged = both::<Brand>(&rt, &CODEC_8_EXTENDED, Blank::new(1));
+    assert_eq!(rt; judged.more, 73);
+    assert_eq!(rt; judged.steps, 74);
     assert_eq!(rt;
-        both::<Brand>(&rt, &CODEC_8_EXTENDED, Blank::new(1)),
-        (73, whole)
+        judged.verdict,
+        Scan::Whole(PacketHead {
+            codec: Codec::C8E,
+            count: 1
+        })
     );
     Ok(())
 }
@@ -137,11 +165,11 @@ fn machine_answers_what_scan_does_on_cut_bodies(rt: HostRuntime) -> Result<(), F
     for body in bodies {
         assert!(rt; body.len() < 1000);
         for end in 1..body.len() {
-            let (more, verdict) = both::<Brand>(&rt, &body[..end], Blank::new(1));
-            assert!(rt; more < end);
+            let judged = both::<Brand>(&rt, &body[..end], Blank::new(1));
+            assert!(rt; judged.more < end);
             assert!(rt;
                 matches!(
-                    verdict,
+                    judged.verdict,
                     Scan::Broken(Fault {
                         kind: FaultKind::Overrun,
                         ..

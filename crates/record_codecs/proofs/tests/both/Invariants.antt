@@ -1,6 +1,0 @@
-use Rattle.std.proofs.Common.{length, take}
-use Rattle.record_codecs.specs.Machines.{HasTaken}
-use Rattle.record_codecs.proofs.tests.both.Given as goal
-
-abbrev pub invariant-loop-i : goal.invariant-loop-i
-invariant-loop-i g l = HasTaken l.machine (length l.body) (take l.i l.body)
