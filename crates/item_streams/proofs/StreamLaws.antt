@@ -20,7 +20,7 @@ pub none_empty : {V : Type 0} → NoneIsEmpty V
 none_empty rows v bytes begins fills = not_empty rows v bytes begins fills
 
 -- the rows behind some items begin with bytes, too
-rows_begin : {V : Type 0} (first later : Rows V) (items : List (Item V)) → AreStreamRows first later → AreStreamRows (rows_behind first later items) later
+pub rows_begin : {V : Type 0} (first later : Rows V) (items : List (Item V)) → AreStreamRows first later → AreStreamRows (rows_behind first later items) later
 rows_begin first later [] rows = rows
 rows_begin first later (item ∷ items) rows = record { first_begins = rows.later_begins; later_begins = rows.later_begins }
 

@@ -2,7 +2,7 @@
 use Rattle.std.specs.Prelude.{◌≡◌, ℕ, ◌+◌, ◌<◌, ◌⊎◌, List, [], ◌∷◌, ◌++◌, length, drop}
 use Rattle.avl_values.specs.declared.fault.FaultKind.{FaultKind}
 use Rattle.layout.specs.Rows.{Rows, whole, short, fault, judge, Fills}
-use Rattle.item_streams.specs.Streams.{Item, Reading, values, rows_behind, place_behind, IsNotWhole, IsReading, only_rest, with_front, with_items, reading_of}
+use Rattle.item_streams.specs.Streams.{Item, Reading, values, rows_behind, place_behind, IsNotWhole, IsReading, only_rest, with_front, with_items, reading_of, ended_by}
 
 -- the rows of a stream: no item has no bytes, and none fails before its first byte
 pub record AreStreamRows {V : Type 0} (first later : Rows V) : Type 0 where
@@ -28,6 +28,11 @@ StreamsCompose V = (first later : Rows V) (place : ℕ) (bytes more : List ℕ) 
 abbrev pub PrefixHasPrefix : Type 0 → Type 0
 PrefixHasPrefix V = (first later : Rows V) (place : ℕ) (bytes more : List ℕ) → AreStreamRows first later
     → (others : List (Item V)) × ((reading_of first later place (bytes ++ more)).items ≡ (reading_of first later place bytes).items ++ others)
+
+-- They are just those that end inside it.
+abbrev pub PrefixItemsEndInside : Type 0 → Type 0
+PrefixItemsEndInside V = (first later : Rows V) (place : ℕ) (bytes more : List ℕ) → AreStreamRows first later
+    → (reading_of first later place bytes).items ≡ ended_by (place + length bytes) (reading_of first later place (bytes ++ more)).items
 
 -- The rest is short or begins with a fault.
 abbrev pub RestIsNotWhole : Type 0 → Type 0

@@ -1,6 +1,6 @@
 -- Streams of items, for any rows: whole items, one behind the other, and a rest (this project's own). A stream's first item
 -- has rows of its own, as a login, and each later item has others; for a stream of one kind both are the same.
-use Rattle.std.specs.Prelude.{◌≡◌, ℕ, zero, suc, ◌+◌, List, [], ◌∷◌, ◌++◌, length, drop, map}
+use Rattle.std.specs.Prelude.{◌≡◌, ℕ, zero, suc, ◌+◌, List, [], ◌∷◌, ◌++◌, length, drop, map, filter, nat_le}
 use Rattle.layout.specs.Rows.{Rows, Verdict, whole, short, fault, judge, Fills}
 
 -- an item: what it says, and the place behind its last byte
@@ -80,3 +80,7 @@ items_of first later bytes = (reading_of first later 0 bytes).items
 -- the bytes behind a stream's items
 abbrev pub rest_of : {V : Type 0} → Rows V → Rows V → List ℕ → List ℕ
 rest_of first later bytes = (reading_of first later 0 bytes).rest
+
+-- the items that end at a place or before it
+abbrev pub ended_by : {V : Type 0} → ℕ → List (Item V) → List (Item V)
+ended_by place items = filter (λ item. nat_le item.end place) items

@@ -1,6 +1,6 @@
 //! The laws, each as the contract of a function that does nothing. They hold for all rows that are short of bytes where
 //! there are none.
-ghost use Rattle.item_streams.specs.Laws.{EachHasReading, OneReading, StreamsCompose, PrefixHasPrefix, RestIsNotWhole, NoneIsEmpty, FaultEndsStream, FrontIsRead, NothingIsRead, ItemAloneIsRead, PlacesAddUp, PlaceSaysNothing};
+ghost use Rattle.item_streams.specs.Laws.{EachHasReading, OneReading, StreamsCompose, PrefixHasPrefix, PrefixItemsEndInside, RestIsNotWhole, NoneIsEmpty, FaultEndsStream, FrontIsRead, NothingIsRead, ItemAloneIsRead, PlacesAddUp, PlaceSaysNothing};
 
 /// Every list of bytes has a reading.
 pub fn each_has_reading<V>()
@@ -20,6 +20,11 @@ pub fn streams_compose<V>()
 /// The items of a prefix are a prefix of the items.
 pub fn prefix_has_prefix<V>()
     ensures { PrefixHasPrefix V }
+{}
+
+/// Of a prefix are read just the items that end inside it.
+pub fn prefix_items_end_inside<V>()
+    ensures { PrefixItemsEndInside V }
 {}
 
 /// The rest is short or begins with a fault.
