@@ -5,7 +5,7 @@ use Rattle.avl_values.specs.declared.fault.FaultKind.{FaultKind}
 use Rattle.layout.specs.Rows.{Rows, Verdict, whole, short, fault, judge}
 use Rattle.layout.proofs.RowLaws.{stays}
 use Rattle.item_streams.specs.Streams.{Item, Reading, values, rows_behind, place_behind, AreItems, IsNotWhole, only_rest, with_front, with_items, behind_front, read_items, reading_of}
-use Rattle.item_streams.specs.Laws.{AreStreamRows, EachHasReading, OneReading, StreamsCompose, PrefixHasPrefix, RestIsNotWhole, NoneIsEmpty, FaultEndsStream, FrontIsRead, NothingIsRead, ItemAloneIsRead, PlacesAddUp, PlaceSaysNothing}
+use Rattle.item_streams.specs.Laws.{AreStreamRows, EachHasReading, OneReading, StreamsCompose, PrefixHasPrefix, RestIsNotWhole, RestGrows, RestCompletes, NoneIsEmpty, FaultEndsStream, FrontIsRead, NothingIsRead, ItemAloneIsRead, PlacesAddUp, PlaceSaysNothing}
 use Rattle.item_streams.proofs.Joining.{not_empty, items_then, rows_behind_both}
 use Rattle.item_streams.proofs.Reading.{reads, only, read_rest, front_is_at, front_of}
 
@@ -51,6 +51,15 @@ short_or_fault (fault kind place) unended = inr (kind, place, refl)
 pub rest_not_whole : {V : Type 0} → RestIsNotWhole V
 rest_not_whole first later place bytes rows = short_or_fault _ (has_reading first later place bytes rows).unfinished
 
+pub grows : {V : Type 0} → RestGrows V
+grows {V = V} first later place bytes more rows unended =
+    let before : Reading V = reading_of first later place bytes in
+    let behind : Rows V = rows_behind first later before.items in
+    let nothing : reading_of behind later (place_behind place before.items) (before.rest ++ more) ≡ only_rest (before.rest ++ more) =
+    read_rest (length (before.rest ++ more)) behind later (place_behind place before.items) (before.rest ++ more) unended in
+    let none : List (Item V) → Reading V = λ xs. record { items = xs; rest = before.rest ++ more } in
+    compose first later place bytes more rows ∙ ap (λ (r : Reading V). with_items before.items r) nothing ∙ ap none (append-nil before.items)
+
 -- A fault stays, and nothing is read behind it.
 
 fault_not_short : {V : Type 0} (verdict : Verdict V) (kind : FaultKind) (at : ℕ) → verdict ≡ fault kind at → verdict ≡ short → ⊥
@@ -64,10 +73,7 @@ fault_ends {V = V} first later place bytes more kind at rows is =
     let before : Reading V = reading_of first later place bytes in
     let behind : Rows V = rows_behind first later before.items in
     let still : judge behind 0 (before.rest ++ more) ≡ fault kind at = stays behind 0 before.rest more (fault_not_short _ kind at is) ∙ is in
-    let nothing : reading_of behind later (place_behind place before.items) (before.rest ++ more) ≡ only_rest (before.rest ++ more) =
-    read_rest (length (before.rest ++ more)) behind later (place_behind place before.items) (before.rest ++ more) (fault_not_whole _ kind at still) in
-    let none : List (Item V) → Reading V = λ xs. record { items = xs; rest = before.rest ++ more } in
-    (compose first later place bytes more rows ∙ ap (λ (r : Reading V). with_items before.items r) nothing ∙ ap none (append-nil before.items), still)
+    (grows first later place bytes more rows (fault_not_whole _ kind at still), still)
 
 -- An item at the front.
 
@@ -100,6 +106,18 @@ items_add_up first later place (item ∷ items) rest bytes (front, more, is, fil
 pub add_up : {V : Type 0} → PlacesAddUp V
 add_up first later place bytes rows =
     items_add_up first later place (reading_of first later place bytes).items (reading_of first later place bytes).rest bytes (has_reading first later place bytes rows).joined
+
+pub completes : {V : Type 0} → RestCompletes V
+completes {V = V} first later place v bytes more rows is =
+    let before : Reading V = reading_of first later place bytes in
+    let behind : Rows V = rows_behind first later before.items in
+    let q = place_behind place before.items in
+    let end : q + length (before.rest ++ more) ≡ place + length (bytes ++ more) =
+    omega (arith, length-append before.rest more, length-append bytes more, add_up first later place bytes rows) in
+    let one : ℕ → Reading V = λ n. record { items = before.items ++ (record { value = v; end = n }) ∷ []; rest = [] } in
+    compose first later place bytes more rows
+    ∙ ap (λ (r : Reading V). with_items before.items r) (alone_read behind later q v (before.rest ++ more) (rows_begin first later before.items rows) is)
+    ∙ ap one end
 
 -- The place says nothing.
 

@@ -45,6 +45,19 @@ RestIsNotWhole V = (first later : Rows V) (place : ℕ) (bytes : List ℕ) → A
 abbrev pub NoneIsEmpty : Type 0 → Type 0
 NoneIsEmpty V = (rows : Rows V) (v : V) (bytes : List ℕ) → judge rows 0 [] ≡ short → Fills rows v bytes → 0 < length bytes
 
+-- While the rest and more is no whole item, only the rest grows.
+abbrev pub RestGrows : Type 0 → Type 0
+RestGrows V = (first later : Rows V) (place : ℕ) (bytes more : List ℕ) → AreStreamRows first later →
+    let reading : Reading V = reading_of first later place bytes in
+    IsNotWhole (judge (rows_behind first later reading.items) 0 (reading.rest ++ more)) → reading_of first later place (bytes ++ more) ≡ record reading { rest = reading.rest ++ more }
+
+-- Where the rest and more is just one whole item, it is the next one, and no byte is left.
+abbrev pub RestCompletes : Type 0 → Type 0
+RestCompletes V = (first later : Rows V) (place : ℕ) (v : V) (bytes more : List ℕ) → AreStreamRows first later →
+    let reading : Reading V = reading_of first later place bytes in
+    judge (rows_behind first later reading.items) 0 (reading.rest ++ more) ≡ whole v (length (reading.rest ++ more))
+    → reading_of first later place (bytes ++ more) ≡ record { items = reading.items ++ (record { value = v; end = place + length (bytes ++ more) }) ∷ []; rest = [] }
+
 -- Behind a fault nothing more is read, however the bytes go on, and the fault stays.
 abbrev pub FaultEndsStream : Type 0 → Type 0
 FaultEndsStream V = (first later : Rows V) (place : ℕ) (bytes more : List ℕ) (kind : FaultKind) (at : ℕ) → AreStreamRows first later →

@@ -1,6 +1,6 @@
 //! The laws, each as the contract of a function that does nothing. They hold for all rows that are short of bytes where
 //! there are none.
-ghost use Rattle.item_streams.specs.Laws.{EachHasReading, OneReading, StreamsCompose, PrefixHasPrefix, PrefixItemsEndInside, RestIsNotWhole, NoneIsEmpty, FaultEndsStream, FrontIsRead, NothingIsRead, ItemAloneIsRead, PlacesAddUp, PlaceSaysNothing};
+ghost use Rattle.item_streams.specs.Laws.{EachHasReading, OneReading, StreamsCompose, PrefixHasPrefix, PrefixItemsEndInside, RestIsNotWhole, RestGrows, RestCompletes, NoneIsEmpty, FaultEndsStream, FrontIsRead, NothingIsRead, ItemAloneIsRead, PlacesAddUp, PlaceSaysNothing};
 
 /// Every list of bytes has a reading.
 pub fn each_has_reading<V>()
@@ -35,6 +35,16 @@ pub fn rest_is_not_whole<V>()
 /// An item has at least one byte.
 pub fn none_is_empty<V>()
     ensures { NoneIsEmpty V }
+{}
+
+/// While the rest and more is no whole item, only the rest grows.
+pub fn rest_grows<V>()
+    ensures { RestGrows V }
+{}
+
+/// Where the rest and more is just one whole item, it is the next one, and no byte is left.
+pub fn rest_completes<V>()
+    ensures { RestCompletes V }
 {}
 
 /// Behind a fault nothing more is read, however the bytes go on.

@@ -8,5 +8,5 @@ mod laws;
 pub use laws::{
     each_has_reading, fault_ends_stream, front_is_read, item_alone_is_read, none_is_empty,
     nothing_is_read, one_reading, place_says_nothing, places_add_up, prefix_has_prefix,
-    prefix_items_end_inside, rest_is_not_whole, streams_compose,
+    prefix_items_end_inside, rest_completes, rest_grows, rest_is_not_whole, streams_compose,
 };
