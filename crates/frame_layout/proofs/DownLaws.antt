@@ -1,0 +1,95 @@
+-- The laws of the items down.
+use Rattle.std.proofs.Common.{◌≡◌, ℕ, ◌+◌, ◌<◌, ◌^◌, ◌==◌, Bool, true, false, List, [], ◌∷◌, ◌++◌, length, take, None, Some, refl, sym, ap, subst, ◌∙◌, arith, if◌then◌else◌}
+use Rattle.std.proofs.lemmas.Bool.Decides.{nat_tests}
+use Rattle.std.proofs.lemmas.List.{append-nil}
+use Rattle.std.specs.Int.{bytes_high_first}
+use Rattle.avl_values.specs.declared.fault.FaultKind.TheVariants.{Length, UnknownCodec}
+use Rattle.layout.specs.Bytes.{AreBytes}
+use Rattle.layout.specs.Fields.{fault_unless}
+use Rattle.layout.specs.Rows.{Rows, done, refuse, body, whole, Fills}
+use Rattle.layout.proofs.Filling.{fills_done, done_filled, no_refusal}
+use Rattle.layout.proofs.Numbers.{bytes-take}
+use Rattle.layout.proofs.RowLaws.{filled, is_whole, none_begins, stays}
+use Rattle.layout.proofs.WithinLaws.{inside}
+use Rattle.std.specs.Prelude.{◌&&◌, nat_le}
+use Rattle.frame_layout.specs.DownRows.{answer_rows, count_rows, down_rows, order_length_rows, order_rows}
+use Rattle.frame_layout.specs.Items.{IsAnswer, IsCount, IsDownItem}
+use Rattle.frame_layout.specs.Laws.{DownItemIsWhole, DownVerdictStays, NoDownItemBeginsAnother, WholeIsDownItem}
+use Rattle.frame_layout.specs.Values.{DownValue, answer, count}
+use Rattle.frame_layout.proofs.NumberFills.{number_fill, number_take, spell-one}
+
+answer_fills : (n : ℕ) (bytes : List ℕ) → IsAnswer n bytes → Fills answer_rows (answer n) bytes
+unfolding answer_rows
+answer_fills n bytes is =
+    let one : bytes_high_first 1 n ++ [] ≡ bytes = append-nil (bytes_high_first 1 n) ∙ spell-one n is.byte ∙ sym is.is in
+    subst (Fills answer_rows (answer n)) one (number_fill 1 (λ _. None) (λ k. done (answer k)) (answer n) n [] (omega (arith, is.byte)) refl (fills_done (answer n)))
+
+filled_answer : (v : DownValue) (bytes : List ℕ) → AreBytes bytes → Fills answer_rows v bytes → IsDownItem false v bytes
+unfolding answer_rows
+filled_answer v bytes p fills =
+    let one = number_take 1 (λ _. None) (λ k. done (answer k)) v bytes p fills in
+    let end = done_filled (answer one.n) v one.more one.fills in
+    let byte : one.n < 256 = omega (arith, one.bound) in
+    let is : bytes ≡ one.n ∷ [] = one.is ∙ ap (λ b. b ++ one.more) (spell-one one.n byte) ∙ ap (λ b. one.n ∷ b) end.1 in
+    let made : IsDownItem false (answer one.n) bytes = record { is = is; byte = byte } in
+    subst (λ x. IsDownItem false x bytes) end.0 made
+
+-- nothing fills the rows of a command yet
+no_order : (v : DownValue) (bytes : List ℕ) → AreBytes bytes → Fills order_length_rows v bytes → ⊥
+unfolding order_length_rows order_rows
+no_order v bytes p fills =
+    let size = number_take 4 (λ k. fault_unless (nat_le 3 k && nat_le k 1268) Length) (λ k. body k order_rows) v bytes p fills in
+    let i = inside size.n order_rows (λ (x : DownValue). done x) v size.more size.fills in
+    let one = number_take 1 (λ _. Some UnknownCodec) (λ _. refuse UnknownCodec) i.0 (take size.n size.more) (bytes-take size.n size.more size.bytes_behind) i.2 in
+    no_refusal UnknownCodec i.0 one.more one.fills
+
+abbrev counted : Bool → ℕ → Rows DownValue
+counted b n = if b then order_length_rows else done (count n)
+
+count_fills : (n : ℕ) (bytes : List ℕ) → IsCount n bytes → Fills count_rows (count n) bytes
+unfolding count_rows
+count_fills n bytes is =
+    let some : (n == 0) ≡ false = let s = is.some in grind (arith, nat_tests) in
+    let behind : Fills (counted (n == 0) n) (count n) [] = subst (λ b. Fills (counted b n) (count n) []) (sym some) (fills_done (count n)) in
+    subst (Fills count_rows (count n)) (append-nil (bytes_high_first 4 n) ∙ sym is.is) (number_fill 4 (λ _. None) (λ k. counted (k == 0) k) (count n) n [] (omega (arith, is.fits)) refl behind)
+
+by_count : (b : Bool) (n : ℕ) (v : DownValue) (more bytes : List ℕ) → (n == 0) ≡ b → n < 2 ^ 32 → AreBytes more → bytes ≡ bytes_high_first 4 n ++ more → Fills (counted b n) v more → IsDownItem true v bytes
+by_count true n v more bytes e bound p is fills = absurd (no_order v more p fills)
+by_count false n v more bytes e bound p is fills =
+    let end = done_filled (count n) v more fills in
+    let some : 0 < n = grind (arith, nat_tests) in
+    let made : IsDownItem true (count n) bytes = record { is = is ∙ ap (λ b. bytes_high_first 4 n ++ b) end.1 ∙ append-nil (bytes_high_first 4 n); some = some; fits = bound } in
+    subst (λ x. IsDownItem true x bytes) end.0 made
+
+filled_count : (v : DownValue) (bytes : List ℕ) → AreBytes bytes → Fills count_rows v bytes → IsDownItem true v bytes
+unfolding count_rows
+filled_count v bytes p fills =
+    let one = number_take 4 (λ _. None) (λ k. counted (k == 0) k) v bytes p fills in
+    by_count (one.n == 0) one.n v one.more bytes refl (omega (arith, one.bound)) one.bytes_behind one.is one.fills
+
+pub down_fills : (after_answer : Bool) (v : DownValue) (bytes : List ℕ) → IsDownItem after_answer v bytes → Fills (down_rows after_answer) v bytes
+down_fills false (answer n) bytes is = answer_fills n bytes is
+down_fills false (count n) bytes is = absurd is
+down_fills true (answer n) bytes is = absurd is
+down_fills true (count n) bytes is = count_fills n bytes is
+
+pub filled_down : (after_answer : Bool) (v : DownValue) (bytes : List ℕ) → AreBytes bytes → Fills (down_rows after_answer) v bytes → IsDownItem after_answer v bytes
+filled_down false v bytes p fills = filled_answer v bytes p fills
+filled_down true v bytes p fills = filled_count v bytes p fills
+
+pub whole_down : WholeIsDownItem
+whole_down after_answer v n bytes p e =
+    let f = filled (down_rows after_answer) 0 n v bytes e in
+    let k : f.0 ≡ n = omega (arith, f.1) in
+    (omega (arith, f.1, f.2), subst (λ m. IsDownItem after_answer v (take m bytes)) k (filled_down after_answer v (take f.0 bytes) (bytes-take f.0 bytes p) f.3))
+
+pub down_whole : DownItemIsWhole
+down_whole after_answer v bytes more is =
+    let n : 0 + length bytes ≡ length bytes = omega arith in
+    is_whole (down_rows after_answer) 0 v bytes more (down_fills after_answer v bytes is) ∙ ap (λ k. whole v k) n
+
+pub down_stays : DownVerdictStays
+down_stays after_answer bytes more come = stays (down_rows after_answer) 0 bytes more come
+
+pub none_begins_down : NoDownItemBeginsAnother
+none_begins_down after_answer v w a b x y p q same = none_begins (down_rows after_answer) v w a b x y (down_fills after_answer v a p) (down_fills after_answer w b q) same

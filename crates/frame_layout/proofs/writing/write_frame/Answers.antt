@@ -1,0 +1,7 @@
+use Rattle.std.proofs.Common.{arith}
+use Rattle.std.proofs.lemmas.Grind.{common_steps}
+use Rattle.layout.proofs.Numbers.{are_bytes}
+use Rattle.frame_layout.proofs.writing.write_frame.Goals as goal
+
+pub returns-clause-frame : goal.returns-clause-frame
+returns-clause-frame c head is = record { is = grind (arith, common_steps); of_body = is; fits = omega arith; are_bytes = are_bytes _ (λ i. omega (arith, c.type_inv.body i)) }

@@ -1,0 +1,6 @@
+pub mod DownRows
+pub mod FrameRows
+pub mod Items
+pub mod Laws
+pub mod UpRows
+pub mod Values

@@ -1,0 +1,42 @@
+//! The laws of the items of a connection, each as the contract of a function that does nothing.
+ghost use Rattle.frame_layout.specs.Laws.{DownItemIsWhole, DownVerdictStays, NoDownItemBeginsAnother, NoUpItemBeginsAnother, UpItemIsWhole, UpVerdictStays, WholeIsDownItem, WholeIsUpItem};
+
+/// A whole verdict up says that the first bytes are a login at the first place, and the frame of a data body behind it.
+pub fn whole_is_up_item()
+    ensures { WholeIsUpItem }
+{}
+
+/// A login's and a frame's verdict is whole, whatever bytes follow.
+pub fn up_item_is_whole()
+    ensures { UpItemIsWhole }
+{}
+
+/// A verdict up that has come stays, whatever bytes follow.
+pub fn up_verdict_stays()
+    ensures { UpVerdictStays }
+{}
+
+/// No item's bytes up begin another item of the same place.
+pub fn no_up_item_begins_another()
+    ensures { NoUpItemBeginsAnother }
+{}
+
+/// A whole verdict down says that the first bytes are the login's answer at the first place, and a count behind it.
+pub fn whole_is_down_item()
+    ensures { WholeIsDownItem }
+{}
+
+/// An answer's and a count's verdict is whole, whatever bytes follow.
+pub fn down_item_is_whole()
+    ensures { DownItemIsWhole }
+{}
+
+/// A verdict down that has come stays, whatever bytes follow.
+pub fn down_verdict_stays()
+    ensures { DownVerdictStays }
+{}
+
+/// No item's bytes down begin another item of the same place.
+pub fn no_down_item_begins_another()
+    ensures { NoDownItemBeginsAnother }
+{}

@@ -1,0 +1,16 @@
+//! The items of a TCP connection: logins and data frames up, the login's answer and counts down. Each is given as rows, for the
+//! verdict on any bytes, and as the list of bytes that it is, with the laws between both; and the writers of those that are
+//! sent.
+#![tactic(auto)]
+
+mod laws;
+mod writing;
+
+pub use laws::{
+    down_item_is_whole, down_verdict_stays, no_down_item_begins_another, no_up_item_begins_another,
+    up_item_is_whole, up_verdict_stays, whole_is_down_item, whole_is_up_item,
+};
+pub use writing::{write_count, write_frame, write_login};
+
+#[cfg(test)]
+mod tests;

@@ -1,0 +1,41 @@
+ghost use Rattle.std.specs.Prelude.{◌≡◌, ◌<◌, ◌≤◌, ◌^◌, length};
+ghost use Rattle.record_layout.specs.declared.head.PacketHead.{PacketHead};
+ghost use Rattle.frame_layout.specs.Items.{IsBody, IsCount, IsFrame, IsLogin, frame_of};
+
+use arrayvec::ArrayVec;
+use avl_values::Imei;
+use crc_field::crc;
+
+/// Writes the frame of a data body over what stood in `out`: four zero bytes, the body's length, the body, and its checksum.
+/// The body has at most 1,268 bytes.
+pub fn write_frame(body: &[u8], out: &mut ArrayVec<u8, 1280>)
+    requires packet { (head : PacketHead) × IsBody head body.now }
+    requires fits { length body.now ≤ 1268 }
+    ensures bytes { out.new.items ≡ frame_of body.now }
+    ensures frame { (head : PacketHead) → IsBody head body.now → IsFrame head body.now out.new.items }
+{
+    out.clear();
+    let _preamble = out.try_extend_from_slice(&[0; 4]);
+    let _length = out.try_extend_from_slice(&(body.len() as u32).to_be_bytes());
+    let _body = out.try_extend_from_slice(body);
+    let _high = out.try_extend_from_slice(&[0; 2]);
+    let _low = out.try_extend_from_slice(&crc(body).to_be_bytes());
+}
+
+/// The login of a device: the length 15 in two bytes, and the 15 digits.
+pub fn write_login(imei: Imei) -> [u8; 17]
+    ensures { IsLogin imei result }
+{
+    let mut login = [0; 17];
+    login[1] = 15;
+    login[2..].copy_from_slice(&imei.digits());
+    login
+}
+
+/// The count that answers a frame: its number of records, which isn't 0, in four bytes.
+pub fn write_count(n: u8) -> [u8; 4]
+    requires { 0 < n }
+    ensures { IsCount n result }
+{
+    (n as u32).to_be_bytes()
+}
