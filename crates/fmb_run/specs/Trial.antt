@@ -6,7 +6,7 @@ use Rattle.fmb_run.specs.Text.{IsOpened, IsReturned}
 use Rattle.fmb_text.specs.Refused.{refused_line}
 use Rattle.fmb_text.specs.Report.{report}
 use Rattle.trial_bench.specs.PlainScript.{Refusal, kind_name, script_of}
-use Rattle.trial_model.specs.Kept.{KeptRecords}
+use Rattle.trial_model.specs.Kept.{Kept}
 use Rattle.trial_model.specs.Results.{Results}
 use Rattle.trial_model.specs.Script.{Script}
 
@@ -16,7 +16,7 @@ pub record IsPlayed (text : List ℕ) (kept : Option Results) : Type 0 where
   pub outcome : Results
   pub is_script : script_of text ≡ Ok script
   pub is_kept : kept ≡ Some outcome
-  pub holds : KeptRecords script outcome
+  pub holds : Kept script outcome
 
 -- the text has a first fault, and its line was printed
 pub record IsRefused (text : List ℕ) (Printed : List ℕ → Type 0) : Type 0 where

@@ -36,6 +36,27 @@ connections 1
 "
 }
 
+fn repeated_fix() -> &'static str {
+    "\
+device 356307042441013 8 16 oldest 1000 0 0 0 known
+fix 356307042441013 1560161086000 0 0 0 0 0 0 0
+fix 356307042441013 1560161087000 0 0 0 0 0 0 0
+fix 356307042441013 1560161086000 0 0 0 0 0 0 0
+round 356307042441013 7 - -
+"
+}
+
+fn repeated_fix_report() -> &'static str {
+    "\
+device 356307042441013 acquired 2 cut 0 overwritten 0 flash 0 archived 2
+acquired 356307042441013 8 0000016b40d8ea3000000000000000000000000000000000000000000000
+acquired 356307042441013 8 0000016b40d8ee1800000000000000000000000000000000000000000000
+archived 356307042441013 8 0000016b40d8ea3000000000000000000000000000000000000000000000
+archived 356307042441013 8 0000016b40d8ee1800000000000000000000000000000000000000000000
+connection 1 356307042441013 device done 3 server ended up 122 122 down 5 5
+"
+}
+
 fn device_line() -> &'static str {
     "device 356307042441013 8 16 oldest 1000 0 0 0 known\n"
 }
@@ -167,6 +188,7 @@ fn scripts_and_words_are_answered_as_written_down(rt: HostRuntime) {
             0,
             "device 356307042441013 acquired 0 cut 0 overwritten 0 flash 0 archived 0\n",
         ),
+        ("trial first", repeated_fix(), 0, repeated_fix_report()),
         ("trial first", with_power(), 3, "refused line 2 NotBuilt\n"),
         ("trial first", two_rounds(), 3, "refused line 4 NotBuilt\n"),
         ("", first_round(), 2, "refused words\n"),

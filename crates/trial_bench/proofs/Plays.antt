@@ -1,5 +1,5 @@
--- What a script that is built decides for its device, and that its outcome keeps what every trial keeps.
-use Rattle.std.proofs.Common.{◌≡◌, ◌==◌, ◌+◌, ℕ, Bool, true, false, List, [], ◌∷◌, ◌++◌, map, fold, Option, Some, None, Result, Ok, option_map, if◌then◌else◌, refl, sym, ap, ◌∙◌, subst, inl, inr, append_assoc}
+-- What a script that is built decides for its device.
+use Rattle.std.proofs.Common.{◌≡◌, ◌==◌, ◌+◌, ℕ, Bool, true, false, List, [], ◌∷◌, ◌++◌, map, fold, Option, Some, None, option_map, if◌then◌else◌, refl, sym, ap, ◌∙◌, subst, append_assoc}
 use Rattle.std.specs.List.{AllZip, filter_map}
 use Rattle.std.proofs.lemmas.Bool.{eq-eqb, false≢true}
 use Rattle.std.proofs.lemmas.List.{append-nil, map_push}
@@ -7,30 +7,22 @@ use Rattle.avl_values.specs.Record.{Record}
 use Rattle.avl_values.specs.declared.codec.Codec.{Codec}
 use Rattle.avl_values.specs.declared.codec.Codec.TheVariants.{C8}
 use Rattle.trial_bench.specs.PlainFrame.{plain_record}
-use Rattle.trial_model.specs.Acquired.{IsAcquired}
 use Rattle.trial_model.specs.Acquisition.{Decided, Watching, bytes_of, decided, is_due, powered_up}
 use Rattle.trial_model.specs.Decisions.{Decision, DeviceHistory, after_connection, after_fix, after_step, before_all, history_of, progress_of, records_decided, steps_of, store_cost}
 use Rattle.trial_model.specs.Load.{one_more}
-use Rattle.trial_model.specs.Kept.{KeptRecords, ends_of}
-use Rattle.trial_model.specs.NothingLost.{HasLostNothing}
-use Rattle.trial_model.specs.OnlyOnce.{HasOnlyAcquired}
-use Rattle.trial_model.specs.RecordLists.{first_places}
-use Rattle.trial_model.specs.Results.{Results}
-use Rattle.trial_model.specs.Script.{Device, Script, device_on, devices_of, lines_of, opening_of, setting_on}
+use Rattle.trial_model.specs.Script.{Device, device_on, devices_of, lines_of, opening_of, setting_on}
 use Rattle.trial_model.specs.declared.fix.Fix.{Fix}
 use Rattle.trial_model.specs.declared.order.Order.TheVariants.{Oldest}
 use Rattle.trial_model.specs.declared.outcome.DeviceEnd.{DeviceEnd}
 use Rattle.trial_model.specs.declared.outcome.DeviceOutcome.{DeviceOutcome}
 use Rattle.trial_model.specs.declared.script.ScriptLine.{ScriptLine}
 use Rattle.trial_model.specs.declared.script.ScriptLine.TheVariants as Line
-use Rattle.trial_bench.specs.PlainOutcome.{made_by, made_from, outcome_by, outcome_of}
-use Rattle.trial_bench.specs.PlainScript.{Refusal}
+use Rattle.trial_bench.specs.PlainOutcome.{made_by, made_from}
 use Rattle.trial_bench.specs.ReadScript.{fix_part, plain_script_of, round_part}
 use Rattle.trial_bench.specs.Tracker.{due_by}
 use Rattle.trial_bench.specs.declared.plain_script.NumberedFix.{NumberedFix}
 use Rattle.trial_bench.specs.declared.plain_script.NumberedRound.{NumberedRound}
 use Rattle.trial_bench.specs.declared.plain_script.PlainScript.{PlainScript}
-use Rattle.trial_bench.proofs.Once.{in_itself, none_in, once}
 
 -- the lines of the script, by its parts
 abbrev pub round_lines : ℕ → Option NumberedRound → List ScriptLine
@@ -94,7 +86,7 @@ abbrev pub after_fixes : Device → DeviceHistory → List NumberedFix → Devic
 after_fixes device h [] = h
 after_fixes device h (f ∷ fs) = after_fixes device (after_fix device h f.fix) fs
 
-chosen : {A : Type 0} (b : Bool) (x y : A) → b ≡ true → (if b then x else y) ≡ x
+pub chosen : {A : Type 0} (b : Bool) (x y : A) → b ≡ true → (if b then x else y) ≡ x
 chosen true x y e = refl
 chosen false x y e = absurd (false≢true e)
 
@@ -125,6 +117,17 @@ round_decides device h imei None ends = refl
 round_decides device h imei (Some r) [] = own_round h (imei == device.imei) None
 round_decides device h imei (Some r) (e ∷ es) = own_round h (imei == device.imei) (Some e)
 
+-- without a round the history ends with the fixes
+round_none : (device : Device) (h : DeviceHistory) (imei : ℕ) (round : Option NumberedRound) (ends : List DeviceEnd) → round ≡ None → fold (after_step device) h (steps_of (round_lines imei round) ends) ≡ h
+round_none device h imei None ends e = refl
+round_none device h imei (Some r) ends e = let k : ◌≡◌ {A = Option NumberedRound} (Some r) None = e in cc
+
+pub history_whole : (s : PlainScript) (ends : List DeviceEnd) → s.round ≡ None → history_of (plain_device s) (steps_of (plain_lines s) ends) ≡ after_fixes (plain_device s) before_all s.fixes.items
+history_whole s ends none =
+    let step = step_plain (device_line s) (fix_lines s.imei s.fixes.items s.round) ends refl in
+    rw step (fixes_history (plain_device s) before_all s.imei s.fixes.items s.round ends refl
+    ∙ round_none (plain_device s) (after_fixes (plain_device s) before_all s.fixes.items) s.imei s.round ends none)
+
 pub history_is : (s : PlainScript) (ends : List DeviceEnd) → (history_of (plain_device s) (steps_of (plain_lines s) ends)).decisions ≡ (after_fixes (plain_device s) before_all s.fixes.items).decisions
 history_is s ends =
     let step = step_plain (device_line s) (fix_lines s.imei s.fixes.items s.round) ends refl in
@@ -143,7 +146,7 @@ abbrev pub history_with : List Decision → Watching → ℕ → DeviceHistory
 history_with ds w load = record { decisions = ds; watching = w; fuse = None; load = load }
 
 -- the history by what a fix decides
-history_by_decided : Device → List Decision → ℕ → Decided → DeviceHistory
+unfoldable pub history_by_decided : Device → List Decision → ℕ → Decided → DeviceHistory
 history_by_decided device ds load x = record {
   decisions = (progress_of device.slots None ds load x.records).decisions;
   watching = x.watching;
@@ -190,59 +193,6 @@ fixes_decide device ds w load (f ∷ fs) c =
 pub decided_is : (s : PlainScript) (ends : List DeviceEnd) → records_decided (history_of (plain_device s) (steps_of (plain_lines s) ends)).decisions ≡ made_by s
 decided_is s ends = ap records_decided (history_is s ends) ∙ fixes_decide (plain_device s) [] powered_up 0 s.fixes.items refl
 
--- what is kept: for the one device
-each_one : (P : Device → DeviceOutcome → Type 0) (s : PlainScript) (d : DeviceOutcome) → P (plain_device s) d → AllZip P (devices_of (plain_lines s)) (d ∷ [])
+-- what holds of the one device and its outcome holds of each
+pub each_one : (P : Device → DeviceOutcome → Type 0) (s : PlainScript) (d : DeviceOutcome) → P (plain_device s) d → AllZip P (devices_of (plain_lines s)) (d ∷ [])
 each_one P s d h = subst (λ (ds : List Device). AllZip P ds (d ∷ [])) (sym (one_device s)) (h, tt)
-
-kept_by : (s : PlainScript) (outcome : Results) (d : DeviceOutcome) → outcome.devices ≡ d ∷ [] → d.imei ≡ s.imei → d.acquired ≡ first_places (made_by s) → HasOnlyAcquired d → HasLostNothing d
-    → KeptRecords (plain_script_of s) outcome
-kept_by s outcome d is imei acquired only lost =
-    let ends = ends_of outcome.connections in
-    let back = sym (lines_are s) in
-    let P : List ScriptLine → Device → DeviceOutcome → Type 0 = λ ls device d. IsAcquired device (history_of device (steps_of ls ends)) d in
-    let right : P (plain_lines s) (plain_device s) d = record { imei = imei; acquired = acquired ∙ ap first_places (sym (decided_is s ends)) } in
-    record {
-      acquired = subst (λ (ls : List ScriptLine). AllZip (P ls) (devices_of ls) outcome.devices) back (subst (λ (ds : List DeviceOutcome). AllZip (P (plain_lines s)) (devices_of (plain_lines s)) ds) (sym is) (each_one (P (plain_lines s)) s d right));
-      only_once = subst (λ (ls : List ScriptLine). AllZip (λ (device : Device) d. HasOnlyAcquired d) (devices_of ls) outcome.devices) back (subst (λ (ds : List DeviceOutcome). AllZip (λ (device : Device) d. HasOnlyAcquired d) (devices_of (plain_lines s)) ds) (sym is) (each_one (λ device d. HasOnlyAcquired d) s d only));
-      nothing_lost = subst (λ (ls : List ScriptLine). AllZip (λ (device : Device) d. HasLostNothing d) (devices_of ls) outcome.devices) back (subst (λ (ds : List DeviceOutcome). AllZip (λ (device : Device) d. HasLostNothing d) (devices_of (plain_lines s)) ds) (sym is) (each_one (λ device d. HasLostNothing d) s d lost));
-    }
-
-kept_round : (s : PlainScript) (round : Option NumberedRound) → KeptRecords (plain_script_of s) (outcome_by s.imei (made_by s) round)
-kept_round s None =
-    let all = first_places (made_by s) in
-    kept_by s (outcome_by s.imei (made_by s) None) (record { imei = s.imei; acquired = all; cut = []; overwritten = []; flash = all; archived = [] }) refl refl refl
-    (record {
-      flash = in_itself all;
-      archived = none_in all;
-      cut = none_in all;
-      overwritten = none_in all;
-      flash_once = once (made_by s);
-      archived_once = refl;
-      cut_once = refl;
-      overwritten_once = refl;
-    })
-    (λ k d below. inl (in_itself all k d below))
-kept_round s (Some r) =
-    let all = first_places (made_by s) in
-    kept_by s (outcome_by s.imei (made_by s) (Some r)) (record { imei = s.imei; acquired = all; cut = []; overwritten = []; flash = []; archived = all }) refl refl refl
-    (record {
-      flash = none_in all;
-      archived = in_itself all;
-      cut = none_in all;
-      overwritten = none_in all;
-      flash_once = refl;
-      archived_once = once (made_by s);
-      cut_once = refl;
-      overwritten_once = refl;
-    })
-    (λ k d below. inr (inl (in_itself all k d below)))
-
-pub kept_records : (s : PlainScript) → KeptRecords (plain_script_of s) (outcome_of s)
-kept_records s = kept_round s s.round
-
--- the script of a text is one
-pub kept_told : (s : PlainScript) (outcome : Results) (told : Result Script Refusal) (script : Script) → told ≡ Ok (plain_script_of s) → outcome ≡ outcome_of s → told ≡ Ok script → KeptRecords script outcome
-kept_told s outcome told script is e also =
-    let k : ◌≡◌ {A = Result Script Refusal} (Ok (plain_script_of s)) (Ok script) = sym is ∙ also in
-    let same : plain_script_of s ≡ script = cc in
-    subst (λ (x : Script). KeptRecords x outcome) same (subst (λ (o : Results). KeptRecords (plain_script_of s) o) (sym e) (kept_records s))

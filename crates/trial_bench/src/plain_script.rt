@@ -29,4 +29,5 @@ pub struct PlainScript {
     pub fixes: Vec<NumberedFix>,
     pub round: Option<NumberedRound>,
     ghost few: { vec_len fixes ≤ 42 },
+    ghost room: { vec_len fixes ≤ slots },
 }

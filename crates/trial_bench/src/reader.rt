@@ -156,7 +156,8 @@ fn with_fix(
 #[tactic(auto, using(crate::proofs::Reading::may_fix))]
 fn takes_fix(script: &PlainScript, imei: Imei) -> bool
     ensures takes { (fix : AnyFix) → result ≡ may_stand (plain_script_of script.now) (Entry.Fix imei fix) }
-    ensures room { IsTrue result → vec_len script.now.fixes < 42 }
+    ensures few { IsTrue result → vec_len script.now.fixes < 42 }
+    ensures room { IsTrue result → vec_len script.now.fixes < script.now.slots }
 {
     let fixes = script.fixes.len();
     script.round.is_none()

@@ -1,7 +1,8 @@
 use crate::{PlainFault, PlainKind, plain_trial};
+use avl_values::NoMemory;
 use std::alloc::Global;
 use std::test::Fail;
-use trial_model::{DeviceEnd, ServerEnd};
+use trial_model::{DeviceEnd, Outcome, ServerEnd};
 
 const DEVICE: &str = "device 356307042441013 8 16 oldest 1000 0 0 0 known\n";
 
@@ -53,18 +54,46 @@ fn an_empty_script_has_no_device(rt: HostRuntime) -> Result<(), Fail> {
     Ok(())
 }
 
-#[test]
-fn the_connection_of_the_first_round(rt: HostRuntime) -> Result<(), Fail> {
-    let text = format!(in rt.alloc(); "{DEVICE}{FIRST}{SECOND}{THIRD}{ROUND}")?;
-    let outcome = plain_trial(rt.alloc(), text.as_bytes())?;
-    assert_eq!(rt; outcome.connections(), 1);
+// What goes up: the login, then one frame of three records without elements at these times, all else in them zero.
+fn sent_up(alloc: Global, times: [u64; 3], checksum: [u8; 2]) -> Result<Vec<u8>, NoMemory> {
+    let mut up = Vec::new(alloc);
+    up.extend_from_slice(b"\x00\x0f356307042441013")?;
+    up.extend_from_slice(&[0, 0, 0, 0, 0, 0, 0, 93, 8, 3])?;
+    for time in times {
+        up.extend_from_slice(&time.to_be_bytes())?;
+        up.extend_from_slice(&[0; 22])?;
+    }
+    up.extend_from_slice(&[3, 0, 0])?;
+    up.extend_from_slice(&checksum)?;
+    Ok(up)
+}
+
+// Whether one connection was made, sent these bytes up, and ended well both ways with three records counted.
+fn is_counted(outcome: &Outcome, up: &[u8]) -> bool {
+    if outcome.connections() != 1 {
+        return false;
+    }
     let connection = outcome.connection_at(0);
-    assert!(rt; connection.device == DeviceEnd::Done(3));
-    assert!(rt; connection.server == ServerEnd::Ended);
-    assert_eq!(rt; connection.up.len(), 122);
-    assert_eq!(rt; connection.up_given, 122);
-    assert_eq!(rt; connection.down_given, 5);
-    assert_eq!(rt; connection.down.as_slice(), [1, 0, 0, 0, 3].as_slice());
+    connection.up.as_slice() == up
+        && connection.up_given == 122
+        && connection.down.as_slice() == [1, 0, 0, 0, 3].as_slice()
+        && connection.down_given == 5
+        && connection.device == DeviceEnd::Done(3)
+        && connection.server == ServerEnd::Ended
+}
+
+#[test]
+fn one_frame_goes_up_and_is_counted(rt: HostRuntime) -> Result<(), Fail> {
+    let first_round = format!(in rt.alloc(); "{DEVICE}{FIRST}{SECOND}{THIRD}{ROUND}")?;
+    let times = [0x16b_40d8_ea30, 0x16b_40d8_ee18, 0x16b_40d8_f200];
+    let up = sent_up(rt.alloc(), times, [0x68, 0x3b])?;
+    let outcome = plain_trial(rt.alloc(), first_round.as_bytes())?;
+    assert!(rt; is_counted(&outcome, &up));
+    let repeated = format!(in rt.alloc(); "{DEVICE}{FIRST}{SECOND}{FIRST}{ROUND}")?;
+    let times = [0x16b_40d8_ea30, 0x16b_40d8_ee18, 0x16b_40d8_ea30];
+    let up = sent_up(rt.alloc(), times, [0x49, 0x91])?;
+    let outcome = plain_trial(rt.alloc(), repeated.as_bytes())?;
+    assert!(rt; is_counted(&outcome, &up));
     Ok(())
 }
 

@@ -1,5 +1,5 @@
 ghost use Rattle.std.specs.Prelude.{◌≡◌, ◌≤◌, [], length, IsOk, IfOk, IfErr, OnOk, Ok};
-ghost use Rattle.trial_model.specs.Kept.{KeptRecords};
+ghost use Rattle.trial_model.specs.Kept.{Kept};
 ghost use Rattle.trial_model.specs.Script.{Script};
 ghost use Rattle.avl_values.specs.Viewed.{records_of};
 ghost use Rattle.trial_model.specs.RecordLists.{first_places};
@@ -27,7 +27,7 @@ pub fn plain_trial(alloc: Global, text: &[u8]) -> Result<Outcome, PlainFault>
     // There is an outcome only of a script,
     ensures read { OnOk result (IsOk (script_of text.now)) }
     // which keeps what every trial keeps,
-    ensures kept { IfOk result (λ outcome. (script : Script) → script_of text.now ≡ Ok script → KeptRecords script outcome) }
+    ensures kept { IfOk result (λ outcome. (script : Script) → script_of text.now ≡ Ok script → Kept script outcome) }
     // and a refusal only of a text that is none, with its first line that isn't built.
     ensures refused { IfErr result (Refuses (script_of text.now)) }
 {
@@ -40,6 +40,7 @@ pub fn plain_trial(alloc: Global, text: &[u8]) -> Result<Outcome, PlainFault>
 
 fn played(alloc: Global, script: &PlainScript) -> Result<Outcome, PlainFault>
     ensures outcome { IfOk result (λ outcome. outcome ≡ outcome_of script.now) }
+    ensures plain { IfOk result (λ _. ArePlain (made_by script.now)) }
     ensures refused { IfErr result (λ fault. fault ≡ PlainFault.NoMemory) }
 {
     match play(alloc, script) {
@@ -50,7 +51,8 @@ fn played(alloc: Global, script: &PlainScript) -> Result<Outcome, PlainFault>
 
 // The device takes its fixes, then makes its connection.
 fn play(alloc: Global, script: &PlainScript) -> Result<Outcome, NoMemory>
-    ensures { IfOk result (λ outcome. outcome ≡ outcome_of script.now) }
+    ensures outcome { IfOk result (λ outcome. outcome ≡ outcome_of script.now) }
+    ensures plain { IfOk result (λ _. ArePlain (made_by script.now)) }
 {
     let tracker = acquire(alloc, script)?;
     match script.round {

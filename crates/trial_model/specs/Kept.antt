@@ -51,12 +51,6 @@ abbrev pub earlier_records : ℕ → List Device → List Step → List Record
 earlier_records imei [] steps = []
 earlier_records imei (d ∷ ds) steps = if d.imei == imei then records_decided (history_of d steps).decisions else earlier_records imei ds steps
 
--- The first three fields, which speak of records alone.
-pub record KeptRecords (script : Script) (outcome : Results) : Type 0 where
-  pub acquired : EachDevice (λ device d. IsAcquired device (history_by outcome (lines_of script) device) d) (lines_of script) outcome
-  pub only_once : EachDevice (λ device d. HasOnlyAcquired d) (lines_of script) outcome
-  pub nothing_lost : EachDevice (λ device d. HasLostNothing d) (lines_of script) outcome
-
 -- A round delivered whole empties its batch, and a device's flash has no more records than its load allows.
 pub record HasWholeRounds (script : Script) (outcome : Results) : Type 0 where
   pub rounds : EachConnection (λ n h c. IsWholeRound (is_known h.opening.imei (devices_of (lines_of script))) h.opening
