@@ -1,4 +1,4 @@
-ghost use Rattle.std.specs.Prelude.{◌≡◌, ◌<◌, ◌≤◌, ◌++◌, [], ◌∷◌, Some, length, IfOk, OnOk};
+ghost use Rattle.std.specs.Prelude.{◌≡◌, ◌≢◌, ◌<◌, ◌≤◌, ◌++◌, [], ◌∷◌, Some, length, IfOk, OnOk};
 ghost use Rattle.std.specs.List.{fold};
 ghost use Rattle.trial_model.specs.RecordLists.{add_once};
 ghost use Rattle.trial_bench.specs.PlainConnection.{connection_of};
@@ -133,6 +133,8 @@ fn answers(alloc: Global, answer: u8, count: u8) -> Result<ByteList, NoMemory>
 fn hear_count(alloc: Global, tracker: &mut PlainTracker, count: u8) -> DeviceEnd
     ensures done { count ≡ length tracker.old.flash → result ≡ DeviceEnd.Done count }
     ensures released { count ≡ length tracker.old.flash → tracker.new.flash ≡ [] }
+    ensures wrong { count ≢ length tracker.old.flash → result ≡ DeviceEnd.WrongAnswer (Got.Count count) }
+    ensures kept { count ≢ length tracker.old.flash → tracker.new.flash ≡ tracker.old.flash }
     ensures acquired { tracker.new.acquired ≡ tracker.old.acquired }
 {
     if count as usize != tracker.flash.len() {
