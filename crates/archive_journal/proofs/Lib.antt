@@ -1,0 +1,10 @@
+pub mod Bodies
+pub mod Journals
+pub mod Keeping
+pub mod Packets
+pub mod Pieces
+pub mod Appends
+pub mod Ends
+pub mod Images
+pub mod Spelled
+pub mod Walks

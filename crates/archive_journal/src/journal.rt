@@ -1,0 +1,183 @@
+ghost use Rattle.std.specs.Prelude.{◌≡◌, ◌⊎◌, ◌↔◌, ◌+◌, ◌<◌, ◌≤◌, ◌^◌, true, false, length, IfOk, IfErr, OnOk, OnErr, IsOk, IsErr, IsErrOf, IsTrue};
+ghost use Rattle.avl_values.specs.Causes.{Rose};
+ghost use Rattle.medium.specs.CallsLeft.{MayFail, after, unlimited};
+ghost use Rattle.medium.specs.Content.{after_sync};
+ghost use Rattle.medium.specs.State.{Counted, EveryImage, IfTold, told};
+ghost use Rattle.archive_journal.specs.Body.{entry_in, is_body};
+ghost use Rattle.archive_journal.specs.Entries.{IsArchive, entries_of};
+ghost use Rattle.archive_journal.specs.Journal.{EachHolds, HasRoom, IsDurable, IsEither, IsRun, KeepsEntries, after_body, entries_told, with_entry};
+
+use crate::entry::EntryList;
+use crate::fault::ArchiveFault;
+use crate::open::open_archive;
+use crate::write::{Tail, write_entry};
+use avl_values::MediumFault;
+use medium::{Bench, Medium, ReserveError, Tear};
+use std::alloc::Global;
+use std::marker::Model;
+
+const MAX_PLACE: u64 = 1 << 62;
+
+/// An archive on a medium, entry behind entry (this project's own).
+///
+/// An entry that was appended with Ok stays in every image that a power loss may leave. After an append that answered
+/// MediumFault the journal is down: take the medium, and open it again.
+#[derive(Drop)]
+pub struct Journal<M: Medium> {
+    medium: M,
+    tail: Tail,
+    reserved: u64,
+    buffer: Vec<u8>,
+    down: bool,
+}
+
+impl<M: Medium> Model for Journal<M> {
+    ghost use Rattle.std.specs.Vec.{vec_capacity};
+    ghost use Rattle.archive_journal.specs.Journal.{JournalView};
+    ghost use Rattle.archive_journal.specs.Places.{IsJournal};
+
+    ghost Value = { JournalView };
+
+    ghost view = { λ j. record { medium = M.state j.medium; gate = j.tail.gate; bodies = j.tail.bodies; reserved = j.reserved; buffer = vec_capacity j.buffer; down = j.down } };
+
+    ghost invariant = { λ j. IsJournal (record { medium = M.state j.medium; gate = j.tail.gate; bodies = j.tail.bodies; reserved = j.reserved; buffer = vec_capacity j.buffer; down = j.down }) };
+}
+
+impl<M: Medium> Journal<M> {
+    /// Opens a medium that a power loss may have left, and gives its entries. A file of at most nine bytes that is no archive is
+    /// made anew, and a last gate that is open is closed.
+    pub fn open(alloc: Global, medium: M) -> Result<(Journal<M>, EntryList), (ArchiveFault, M)>
+        ensures durable { IfOk result (λ r. IsDurable r.0) }
+        ensures entries { IfOk result (λ r. IfTold (M.state medium).content (λ c. r.1 ≡ entries_of c.reads)) }
+        ensures bodies { IfOk result (λ r. r.0.bodies ≡ length r.1) }
+
+        // It keeps the entries that a power loss might have left, also where it fails.
+        ensures keeps { IfOk result (λ r. EveryImage r.0.medium.content (KeepsEntries (M.state medium).content)) }
+        ensures keeps_err { IfErr result (λ e. EveryImage (M.state e.1).content (KeepsEntries (M.state medium).content)) }
+
+        ensures archive { OnOk result (IfTold (M.state medium).content (λ c. IsArchive c.reads)) }
+        ensures not_archive { IfErr result (λ e. e.0 ≡ ArchiveFault.NotArchive → IfTold (M.state medium).content (λ c. IsArchive c.reads → ⊥)) }
+        ensures not_written { IfErr result (λ e. e.0 ≡ ArchiveFault.NotArchive → (M.state e.1).content ≡ told after_sync (M.state medium).content) }
+
+        ensures run { IfOk result (λ r. IsRun (M.state medium) r.0.medium ⊥) }
+        ensures run_err { IfErr result (λ e. IsRun (M.state medium) (M.state e.1) (e.0 ≡ ArchiveFault.MediumFault)) }
+    {
+        let mut medium = medium;
+        match open_archive(alloc, &mut medium) {
+            Ok((tail, entries)) => {
+                let journal = Journal {
+                    medium,
+                    tail,
+                    reserved: 0,
+                    buffer: Vec::new(alloc),
+                    down: false,
+                };
+                Ok((journal, entries))
+            }
+            Err(fault) => Err((fault, medium)),
+        }
+    }
+
+    /// Makes it ready for an append of a body of so many bytes. NoMemory and Failed leave the entries as they are; Failed comes
+    /// only where the count of faults rose.
+    pub fn room(&mut self, bytes: u32) -> Result<(), ReserveError>
+        ensures room { OnOk result (HasRoom self.new bytes) }
+        ensures same { self.new ≡ record self.old { medium = self.new.medium; reserved = self.new.reserved; buffer = self.new.buffer } }
+        ensures content { self.new.medium.content ≡ self.old.medium.content }
+        ensures left { self.new.medium.left ≡ self.old.medium.left }
+        ensures failed { IsErrOf result ReserveError.Failed → MayFail self.old.medium.left }
+        ensures cause { IsErrOf result ReserveError.Failed → Rose self.old.medium.faults self.new.medium.faults }
+        ensures later { self.old.medium.faults ≤ self.new.medium.faults }
+        ensures ready { self.old.medium.ready ≤ self.new.medium.ready }
+    {
+        let place = self.tail.gate + bytes as u64 + 2;
+        if place > MAX_PLACE {
+            return Err(ReserveError::NoMemory);
+        }
+        self.buffer.clear();
+        if self.buffer.reserve(bytes as usize + 1).is_err() {
+            return Err(ReserveError::NoMemory);
+        }
+        self.medium.reserve(place)?;
+        self.reserved = place;
+        Ok(())
+    }
+
+    /// Whether it is ready for an append of a body of so many bytes.
+    pub fn has_room(&self, bytes: u32) -> bool
+        ensures { IsTrue result ↔ HasRoom self.now bytes }
+    {
+        self.tail.gate + bytes as u64 + 2 <= self.reserved
+            && bytes as usize + 1 <= self.buffer.capacity()
+    }
+
+    /// Appends an entry by four calls of the medium, and gives its number, counted from 0. It takes no memory.
+    pub fn append(&mut self, body: &[u8]) -> Result<u64, MediumFault>
+        requires up { self.old.down ≡ false }
+        requires body { is_body body.now ≡ true }
+        requires room { HasRoom self.old (length body.now) }
+
+        ensures number { IfOk result (λ n. n ≡ self.old.bodies) }
+        ensures appended { OnOk result (self.new ≡ record (after_body (length body.now) self.old) { medium = self.new.medium; buffer = self.new.buffer }) }
+        ensures entries { OnOk result (entries_told self.new.medium.content ≡ with_entry (entry_in body.now) (entries_told self.old.medium.content)) }
+        ensures durable { OnOk result (IsDurable self.new) }
+
+        // At every exit, and so at each moment of the call, a power loss leaves the entries before or those after.
+        ensures images { EachHolds self.new.medium (IsEither (entries_told self.old.medium.content) (with_entry (entry_in body.now) (entries_told self.old.medium.content))) }
+
+        ensures failed { OnErr result (self.new ≡ record self.old { medium = self.new.medium; buffer = self.new.buffer; down = true }) }
+        ensures counted { Counted 4 self.old.medium self.new.medium (IsErr result) }
+    {
+        let number = self.tail.bodies;
+        match write_entry(&mut self.medium, self.tail, body, &mut self.buffer) {
+            Ok(tail) => {
+                self.tail = tail;
+                Ok(number)
+            }
+            Err(_) => {
+                self.down = true;
+                Err(MediumFault)
+            }
+        }
+    }
+
+    /// Whether an append answered MediumFault.
+    pub fn is_down(&self) -> bool
+        ensures value { result ≡ self.now.down }
+        ensures durable { self.now.down ≡ false → IsDurable self.now }
+    {
+        self.down
+    }
+
+    /// The number of entries.
+    pub fn bodies(&self) -> u64
+        ensures { result ≡ self.now.bodies }
+    {
+        self.tail.bodies
+    }
+
+    /// How often its medium has failed.
+    pub fn faults(&self) -> u64
+        ensures { result ≡ self.now.medium.faults }
+    {
+        self.medium.faults()
+    }
+
+    /// The medium, also of a journal that is down.
+    pub fn into_medium(self) -> M
+        ensures { M.state result ≡ self.medium }
+    {
+        let Journal { medium, .. } = self;
+        medium
+    }
+
+    /// Arms the journal's bench.
+    pub fn arm(&mut self, calls: u64, tear: Tear)
+    where
+        M: Bench,
+        requires { self.old.medium.left ≡ unlimited }
+        ensures { self.new ≡ record self.old { medium = record self.old.medium { left = after calls } } }
+    {
+        self.medium.arm(calls, tear);
+    }
+}
