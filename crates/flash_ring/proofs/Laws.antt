@@ -1,55 +1,19 @@
 -- What closing slots does to the records that are held.
-use Rattle.std.proofs.Common.{◌≡◌, ◌≢◌, ◌⊎◌, inl, inr, ℕ, zero, suc, ◌+◌, ◌-◌, ◌<◌, ◌≤◌, nat_le, ◌==◌, not, ◌&&◌, if◌then◌else◌, Bool, true, false, IsTrue, List, [], ◌∷◌, length, get_or, set, drop, map, Option, Some, None, slice_get, sym, ◌∙◌, ap, refl, subst, arith, length-set, get_or-set_same, get_or-set_other}
+use Rattle.std.proofs.Common.{◌≡◌, ◌≢◌, inl, inr, ℕ, zero, suc, ◌+◌, ◌-◌, ◌<◌, ◌≤◌, nat_le, ◌==◌, not, ◌&&◌, if◌then◌else◌, Bool, true, false, IsTrue, List, [], ◌∷◌, length, get_or, set, drop, map, Option, Some, None, slice_get, sym, ◌∙◌, ap, refl, subst, arith, length-set, get_or-set_same, get_or-set_other}
 use Rattle.std.proofs.lemmas.Bool.{cases_eq, eq-eqb, false≢true}
-use Rattle.std.proofs.lemmas.Bool.Decides.{nat_tests}
 use Rattle.std.proofs.lemmas.Option.{slice_get-get_or, get_or_from_slice_get, slice_get_within}
 use Rattle.flash_ring.specs.declared.order.Order.{Order}
-use Rattle.flash_ring.specs.declared.order.Order.TheVariants.{Oldest, Newest}
+use Rattle.flash_ring.specs.declared.order.Order.TheVariants.{Oldest}
 use Rattle.flash_ring.specs.Held.{Held, AreBelow, IsPart, is_full, closed_all, next_of, put_in}
 use Rattle.flash_ring.specs.Images.{MayClose, OthersStay, AreOpen, AreDistinct, has_slot}
 use Rattle.flash_ring.specs.Entries.{Entry, goes_first, insert_in, entries_from, entries_of, rec_of, held_of, batch, batch_of, selected, without_first, with_room}
 use Rattle.medium.specs.Content.{Content}
 use Rattle.flash_ring.proofs.Rings.{next_of-below}
 use Rattle.flash_ring.proofs.Slots.{eqb-not}
-use Rattle.flash_ring.proofs.Entries.{Each, IsEntry, insert-each, each-map, entries-open, length-insert_in, held_count}
+use Rattle.flash_ring.proofs.Entries.{Each, InOrder, IsEntry, bool_cases, first_trans, entries-in_order, insert-each, each-map, entries-open, length-insert_in, held_count}
 use Rattle.flash_ring.proofs.Closes.{has-cases, has-here, has-there}
 use Rattle.avl_values.specs.declared.codec.Codec.{Codec}
 use Rattle.avl_values.specs.Codec.{is_codec}
-
--- Two sequences in order.
-first_trans : (order : Order) (a b c : ℕ) → goes_first order a b ≡ true → goes_first order b c ≡ true → goes_first order a c ≡ true
-first_trans Oldest a b c ab bc = grind (arith, nat_tests)
-first_trans Newest a b c ab bc = grind (arith, nat_tests)
-
-first_total : (order : Order) (a b : ℕ) → goes_first order a b ≡ false → goes_first order b a ≡ true
-first_total Oldest a b no_first = grind (arith, nat_tests)
-first_total Newest a b no_first = grind (arith, nat_tests)
-
-bool_cases : (b : Bool) → (b ≡ true) ⊎ (b ≡ false)
-bool_cases true = inl refl
-bool_cases false = inr refl
-
--- Entries in order: each goes before those behind it.
-abbrev InOrder : Order → List Entry → Type 0
-InOrder order [] = Unit {0}
-InOrder order (e ∷ es) = Each (λ x. goes_first order e.held.seq x.held.seq ≡ true) es × InOrder order es
-
-insert-in_order : (order : Order) (e : Entry) (xs : List Entry) → InOrder order xs → InOrder order (insert_in order e xs)
-insert-in_order order e [] all = (tt, tt)
-insert-in_order order e (x ∷ xs) all =
-    elim (bool_cases (goes_first order e.held.seq x.held.seq)) as (λ _. InOrder order (insert_in order e (x ∷ xs))) [
-      | inl first ↦
-          (let P : Bool → Type 0 = λ b. InOrder order (if b then e ∷ x ∷ xs else x ∷ insert_in order e xs) in
-          subst P (sym first) ((first, each-map (λ y. goes_first order x.held.seq y.held.seq ≡ true) (λ y. goes_first order e.held.seq y.held.seq ≡ true) xs (λ y after. first_trans order e.held.seq x.held.seq y.held.seq first after) all.0), all))
-      | inr later ↦
-          (let P : Bool → Type 0 = λ b. InOrder order (if b then e ∷ x ∷ xs else x ∷ insert_in order e xs) in
-          subst P (sym later) (insert-each order (λ y. goes_first order x.held.seq y.held.seq ≡ true) e xs (first_total order e.held.seq x.held.seq later) all.0, insert-in_order order e xs all.1))
-    ]
-
-entries-in_order : (order : Order) (k : ℕ) (slots : List (Option Held)) → InOrder order (entries_from order k slots)
-entries-in_order order k [] = tt
-entries-in_order order k (None ∷ slots) = entries-in_order order (k + 1) slots
-entries-in_order order k (Some x ∷ slots) = insert-in_order order (record { slot = k; held = x }) _ (entries-in_order order (k + 1) slots)
 
 -- the entries whose slots pass a test
 abbrev pub kept : (ℕ → Bool) → List Entry → List Entry

@@ -1,3 +1,4 @@
+pub mod Batches
 pub mod Closes
 pub mod Entries
 pub mod Formats
@@ -5,6 +6,7 @@ pub mod Laws
 pub mod Loads
 pub mod Ranks
 pub mod Rings
+pub mod Sequences
 pub mod Slots
 pub mod Stores
 pub mod Writes
