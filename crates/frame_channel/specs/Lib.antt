@@ -1,0 +1,5 @@
+pub mod Fields
+pub mod UpBuffers
+pub mod UpCursors
+pub mod UpMachines
+pub mod UpPushes
