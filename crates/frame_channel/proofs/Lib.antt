@@ -1,5 +1,7 @@
 pub mod BodySteps
 pub mod Digits
+pub mod DownPieces
+pub mod DownSteps
 pub mod FaultPlaces
 pub mod FieldSteps
 pub mod UpPieces

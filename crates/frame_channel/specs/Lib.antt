@@ -1,3 +1,7 @@
+pub mod DownBuffers
+pub mod DownCursors
+pub mod DownMachines
+pub mod DownPushes
 pub mod Fields
 pub mod UpBuffers
 pub mod UpCursors

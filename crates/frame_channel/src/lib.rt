@@ -3,11 +3,18 @@
 #![tactic(auto)]
 
 mod body_reader;
+mod down;
+mod down_cursor;
+mod down_item;
+mod down_machine;
 mod field;
 mod up;
 mod up_cursor;
 mod up_item;
 mod up_machine;
 
+pub use down::Down;
+pub use down_item::DownItem;
+pub use frame_layout::{write_count, write_frame, write_login};
 pub use up::Up;
 pub use up_item::UpItem;

@@ -1,21 +1,23 @@
--- What an item up says at its place: a login at the first, and behind it a frame with its body.
-use Rattle.std.proofs.Common.{◌≡◌, ℕ, zero, suc, ◌+◌, ◌-◌, ◌*◌, ◌==◌, ◌&&◌, ◌≤◌, Bool, true, false, List, [], ◌++◌, length, take, drop, refl, sym, ap, subst, ◌∙◌, arith, length-append, length-drop, append_assoc}
+-- What an item says at its place: up a login at the first, and behind it a frame with its body; down the login's answer at the
+-- first, and counts behind it.
+use Rattle.std.proofs.Common.{◌≡◌, ℕ, zero, suc, ◌+◌, ◌-◌, ◌*◌, ◌==◌, ◌&&◌, ◌≤◌, Bool, true, false, List, [], ◌++◌, length, take, drop, Some, None, if◌then◌else◌, refl, sym, ap, subst, ◌∙◌, arith, length-append, length-drop, append_assoc}
 use Rattle.std.specs.Prelude.{nat_le}
 use Rattle.std.proofs.Math.Seq.{drop-append_seam}
 use Rattle.std.proofs.lemmas.List.{length-take-le}
 use Rattle.avl_values.specs.Imei.{is_digit}
-use Rattle.avl_values.specs.declared.fault.FaultKind.TheVariants.{CrcHigh, CrcMismatch, Length, LoginDigit, LoginLength, Preamble}
+use Rattle.avl_values.specs.declared.fault.FaultKind.TheVariants.{CrcHigh, CrcMismatch, Length, LoginDigit, LoginLength, Preamble, UnknownCodec}
 use Rattle.crc_field.specs.Crc.{crc_of}
 use Rattle.layout.specs.Fields.{fault_unless, number}
 use Rattle.layout.specs.Nested.{with_bytes}
-use Rattle.layout.specs.Rows.{Rows, done, Fills}
-use Rattle.layout.proofs.Filling.{done_filled, row_filled}
+use Rattle.layout.specs.Rows.{Rows, body, done, refuse, Fills}
+use Rattle.layout.proofs.Filling.{done_filled, no_refusal, row_filled}
 use Rattle.layout.proofs.WithinLaws.{inside}
 use Rattle.record_layout.specs.PacketRows.{packet_rows}
 use Rattle.record_layout.specs.declared.head.PacketHead.{PacketHead}
+use Rattle.frame_layout.specs.DownRows.{answer_rows, count_rows, down_rows, order_length_rows, order_rows}
 use Rattle.frame_layout.specs.FrameRows.{body_rows, crc_low_rows, crc_rows, frame_rows, length_rows}
 use Rattle.frame_layout.specs.UpRows.{data_frame_rows, digit_rows, login_rows, up_rows}
-use Rattle.frame_layout.specs.Values.{UpValue, login, packet}
+use Rattle.frame_layout.specs.Values.{DownValue, UpValue, answer, count, login, packet}
 use Rattle.frame_layout.proofs.SaidBytes.{said}
 
 pub record SaysLogin (v : UpValue) : Type 0 where
@@ -86,3 +88,46 @@ frame_says v bytes fills =
 pub says_at : (after_login : Bool) (v : UpValue) (bytes : List ℕ) → Fills (up_rows after_login) v bytes → SaysAt after_login v bytes
 says_at false v bytes fills = login_says v bytes fills
 says_at true v bytes fills = frame_says v bytes fills
+
+-- Down.
+
+pub record SaysAnswer (v : DownValue) : Type 0 where
+  pub n : ℕ
+  pub value : v ≡ answer n
+
+pub record SaysCount (v : DownValue) : Type 0 where
+  pub n : ℕ
+  pub value : v ≡ count n
+
+abbrev pub SaysDown : Bool → DownValue → Type 0
+SaysDown false v = SaysAnswer v
+SaysDown true v = SaysCount v
+
+answer_says : (v : DownValue) (bytes : List ℕ) → Fills answer_rows v bytes → SaysAnswer v
+unfolding answer_rows
+answer_says v bytes fills =
+    let f = row_filled 1 (λ _. None) (λ field. done (answer (number field))) v bytes fills in
+    record { n = number f.0; value = sym (done_filled (answer (number f.0)) v f.1 f.5).0 }
+
+-- nothing fills the rows of a command yet
+no_order : (v : DownValue) (bytes : List ℕ) → Fills order_length_rows v bytes → ⊥
+unfolding order_length_rows order_rows
+no_order v bytes fills =
+    let size = row_filled 4 (λ field. fault_unless (nat_le 3 (number field) && nat_le (number field) 1268) Length) (λ field. body (number field) order_rows) v bytes fills in
+    let i = inside (number size.0) order_rows (λ (x : DownValue). done x) v size.1 size.5 in
+    let one = row_filled 1 (λ _. Some UnknownCodec) (λ _. refuse UnknownCodec) i.0 (take (number size.0) size.1) i.2 in
+    no_refusal UnknownCodec i.0 one.1 one.5
+
+counted_says : (b : Bool) (n : ℕ) (v : DownValue) (bytes : List ℕ) → Fills (if b then order_length_rows else done (count n)) v bytes → SaysCount v
+counted_says true n v bytes fills = absurd (no_order v bytes fills)
+counted_says false n v bytes fills = record { n = n; value = sym (done_filled (count n) v bytes fills).0 }
+
+count_says : (v : DownValue) (bytes : List ℕ) → Fills count_rows v bytes → SaysCount v
+unfolding count_rows
+count_says v bytes fills =
+    let f = row_filled 4 (λ _. None) (λ field. if number field == 0 then order_length_rows else done (count (number field))) v bytes fills in
+    counted_says (number f.0 == 0) (number f.0) v f.1 f.5
+
+pub says_down : (after_answer : Bool) (v : DownValue) (bytes : List ℕ) → Fills (down_rows after_answer) v bytes → SaysDown after_answer v
+says_down false v bytes fills = answer_says v bytes fills
+says_down true v bytes fills = count_says v bytes fills
