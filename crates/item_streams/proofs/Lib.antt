@@ -1,0 +1,5 @@
+pub mod Ending
+pub mod Joining
+pub mod Reading
+pub mod StreamLaws
+pub mod Worked

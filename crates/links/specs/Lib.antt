@@ -1,0 +1,3 @@
+pub mod Going
+pub mod Links
+pub mod Memory
