@@ -4,5 +4,6 @@ pub mod FrameFills
 pub mod Lengths
 pub mod LoginFills
 pub mod NumberFills
+pub mod Places
 pub mod SaidBytes
 pub mod UpLaws

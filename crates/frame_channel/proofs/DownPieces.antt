@@ -1,0 +1,81 @@
+-- A reader of a stream down that goes on through a piece.
+use Rattle.std.proofs.Common.{◌≡◌, ℕ, ◌+◌, ◌<◌, ◌≤◌, ◌⊎◌, inl, inr, Bool, false, List, [], ◌∷◌, ◌++◌, length, take, get_or, refl, sym, ap, subst, ◌∙◌, arith, append_assoc, below_more}
+use Rattle.std.proofs.lemmas.List.{append-nil, take_more}
+use Rattle.layout.specs.Rows.{short}
+use Rattle.frame_layout.specs.DownRows.{down_verdict}
+use Rattle.frame_channel.specs.DownPushes.{IsAtPlace, Pushed, PushedByte, DownState, item_verdict, state_after}
+use Rattle.frame_channel.specs.declared.down_item.DownItem.{DownItem}
+use Rattle.frame_channel.specs.declared.down_item.DownItem.TheVariants.{More, Login, Count, Broken}
+
+abbrev pub holding : DownState → List ℕ → DownState
+holding old have = record old { have = have }
+
+-- i bytes of the piece were taken, and decided nothing
+pub record Going (old now : DownState) (piece : List ℕ) (i : ℕ) : Type 0 where
+  pub is : now ≡ holding old (old.have ++ take i piece)
+  pub short_yet : down_verdict old.after_answer (old.have ++ take i piece) ≡ short
+  pub first : (k : ℕ) → k < i → down_verdict old.after_answer (old.have ++ take k piece) ≡ short
+
+pub begins : (old : DownState) (piece : List ℕ) → down_verdict old.after_answer old.have ≡ short → Going old old piece 0
+begins old piece e = record {
+  is = ap (holding old) (sym (append-nil old.have));
+  short_yet = ap (down_verdict old.after_answer) (append-nil old.have) ∙ e;
+  first = λ k below. absurd (omega arith);
+}
+
+pub going_up : (old now : DownState) (piece : List ℕ) (i : ℕ) → Going old now piece i → old.failed ≡ false → now.failed ≡ false
+going_up old now piece i g up = ap (λ (s : DownState). s.failed) g.is ∙ up
+
+one_more : (old : DownState) (piece : List ℕ) (i : ℕ) → i < length piece → old.have ++ take i piece ++ get_or piece i 0 ∷ [] ≡ old.have ++ take (i + 1) piece
+one_more old piece i below = append_assoc old.have (take i piece) (get_or piece i 0 ∷ []) ∙ ap (λ t. old.have ++ t) (sym (take_more piece i 0 below))
+
+same_state : (old : DownState) (have bytes : List ℕ) (item : DownItem) → state_after (holding old have) bytes item ≡ state_after old bytes item
+same_state old have bytes More = refl
+same_state old have bytes (Login n) = refl
+same_state old have bytes (Count n) = refl
+same_state old have bytes (Broken found) = refl
+
+-- the next byte and its answer
+record Answered (old new : DownState) (piece : List ℕ) (n : ℕ) (item : DownItem) : Type 0 where
+  pub verdict : down_verdict old.after_answer (old.have ++ take n piece) ≡ item_verdict item (old.have ++ take n piece)
+  pub at_place : IsAtPlace old.after_answer item
+  pub state : new ≡ state_after old (old.have ++ take n piece) item
+
+answered : (old now new : DownState) (piece : List ℕ) (i : ℕ) (item : DownItem) → i < length piece → Going old now piece i → PushedByte now new (get_or piece i 0) item → Answered old new piece (i + 1) item
+answered old now new piece i item below g byte =
+    let have = old.have ++ take i piece in
+    let b = get_or piece i 0 in
+    let p : PushedByte (holding old have) new b item = subst (λ (s : DownState). PushedByte s new b item) g.is byte in
+    let joined = one_more old piece i below in
+    record {
+      verdict = subst (λ bytes. down_verdict old.after_answer bytes ≡ item_verdict item bytes) joined p.verdict;
+      at_place = p.at_place;
+      state = p.state ∙ same_state old have (have ++ b ∷ []) item ∙ ap (λ bytes. state_after old bytes item) joined;
+    }
+
+shorter : (old now : DownState) (piece : List ℕ) (i : ℕ) → Going old now piece i → (k : ℕ) → k < i + 1 → down_verdict old.after_answer (old.have ++ take k piece) ≡ short
+shorter old now piece i g = below_more (λ k. down_verdict old.after_answer (old.have ++ take k piece) ≡ short) i g.first g.short_yet
+
+pub goes_on : (old now new : DownState) (piece : List ℕ) (i : ℕ) → i < length piece → Going old now piece i → PushedByte now new (get_or piece i 0) More → Going old new piece (i + 1)
+goes_on old now new piece i below g byte =
+    let a = answered old now new piece i More below g byte in
+    record { is = a.state; short_yet = a.verdict; first = shorter old now piece i g }
+
+pub decided : (old now new : DownState) (piece : List ℕ) (i : ℕ) (item : DownItem) → i < length piece → Going old now piece i → PushedByte now new (get_or piece i 0) item → (item ≡ More → ⊥)
+    → Pushed old new piece (i + 1) item
+decided old now new piece i item below g byte come =
+    let a = answered old now new piece i item below g byte in
+    record {
+      within_piece = omega arith;
+      some = λ some. omega arith;
+      verdict = a.verdict;
+      first = shorter old now piece i g;
+      all_for_more = λ more. absurd (come more);
+      at_place = a.at_place;
+      state = a.state;
+    }
+
+pub all_taken : (old now : DownState) (piece : List ℕ) (i : ℕ) → i ≡ length piece → Going old now piece i → Pushed old now piece (length piece) More
+all_taken old now piece i all g =
+    let h : Going old now piece (length piece) = subst (Going old now piece) all g in
+    record { within_piece = omega arith; some = λ some. some; verdict = h.short_yet; first = h.first; all_for_more = λ more. refl; at_place = tt; state = h.is }

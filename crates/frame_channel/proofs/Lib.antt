@@ -1,0 +1,9 @@
+pub mod BodySteps
+pub mod Digits
+pub mod DownPieces
+pub mod DownSteps
+pub mod FaultPlaces
+pub mod FieldSteps
+pub mod UpPieces
+pub mod UpSteps
+pub mod UpTakes

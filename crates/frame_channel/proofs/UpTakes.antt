@@ -1,0 +1,108 @@
+-- A reader of a stream up that takes one byte.
+use Rattle.std.proofs.Common.{◌≡◌, ℕ, ◌+◌, ◌-◌, ◌<◌, ◌≤◌, Bool, true, false, List, [], ◌∷◌, ◌++◌, length, take, drop, set, refl, sym, ap, subst, ◌∙◌, arith}
+use Rattle.std.proofs.Math.Seq.{take-length}
+use Rattle.std.proofs.lemmas.List.{drop-take, length-set, length-take-le, take-take, take_more_set}
+use Rattle.layout.specs.Rows.{fault, whole}
+use Rattle.layout.proofs.RowLaws.{filled}
+use Rattle.avl_values.specs.declared.fault.Fault.{Fault}
+use Rattle.record_layout.specs.declared.head.PacketHead.{PacketHead}
+use Rattle.frame_layout.specs.UpRows.{up_rows, up_verdict}
+use Rattle.frame_layout.specs.Values.{UpValue, login, packet}
+use Rattle.frame_layout.proofs.Places.{SaysAt, SaysPacket, says_at}
+use Rattle.frame_channel.specs.UpBuffers.{IsUp}
+use Rattle.frame_channel.specs.UpMachines.{HasTaken}
+use Rattle.frame_channel.specs.UpPushes.{PushedByte, UpState, body_in}
+use Rattle.frame_channel.specs.declared.up_item.UpItem.TheVariants.{More, Login, Packet, Broken}
+use Rattle.frame_channel.specs.declared.up_machine.UpMachine.{UpMachine}
+use Rattle.frame_channel.proofs.UpSteps.{has_few, has_short}
+
+-- the buffer with one byte more
+
+pub written : (buffer : List ℕ) (len b : ℕ) → len < length buffer → take (len + 1) (set buffer len b) ≡ take len buffer ++ b ∷ []
+written buffer len b room = take_more_set buffer len b room
+
+pub room_left : (buffer : List ℕ) (len : ℕ) (after_login : Bool) (m : UpMachine) → length buffer ≡ 65547 → len ≤ 65547 → HasTaken m after_login (take len buffer) → len < 65547
+room_left buffer len after_login m room fits taking = omega (arith, has_few m after_login (take len buffer) taking, length-take-le len buffer (omega arith))
+
+-- what a whole verdict says
+
+whole_says : (after_login : Bool) (v : UpValue) (bytes : List ℕ) → up_verdict after_login bytes ≡ whole v (length bytes) → SaysAt after_login v bytes
+whole_says after_login v bytes e =
+    let f = filled (up_rows after_login) 0 (length bytes) v bytes e in
+    let k : f.0 ≡ length bytes = omega (arith, f.1) in
+    subst (SaysAt after_login v) (ap (λ n. take n bytes) k ∙ take-length bytes) (says_at after_login v (take f.0 bytes) f.3)
+
+login_place : (after_login : Bool) (imei : ℕ) (bytes : List ℕ) → SaysAt after_login (login imei) bytes → after_login ≡ false
+login_place false imei bytes s = refl
+login_place true imei bytes s = absurd (let e = s.value in cc)
+
+packet_place : (after_login : Bool) (head : PacketHead) (body bytes : List ℕ) → SaysAt after_login (packet head body) bytes → (after_login ≡ true) × SaysPacket (packet head body) bytes
+packet_place false head body bytes s = absurd (let e = s.value in cc)
+packet_place true head body bytes s = (refl, s)
+
+-- the body that a whole frame says
+body_said : (head : PacketHead) (body bytes : List ℕ) → SaysPacket (packet head body) bytes → (body ≡ body_in bytes) × (12 ≤ length bytes)
+body_said head body bytes s =
+    let e = s.value in
+    let same : body ≡ s.body = cc in
+    (same ∙ sym s.body_is, omega (arith, s.size))
+
+pub packet_verdict_says : (after_login : Bool) (head : PacketHead) (bytes : List ℕ) → (body : List ℕ) × (up_verdict after_login bytes ≡ whole (packet head body) (length bytes))
+    → (after_login ≡ true) × (12 ≤ length bytes) × (up_verdict after_login bytes ≡ whole (packet head (body_in bytes)) (length bytes))
+packet_verdict_says after_login head bytes (body, e) =
+    let p = packet_place after_login head body bytes (whole_says after_login (packet head body) bytes e) in
+    let b = body_said head body bytes p.1 in
+    (p.0, b.1, e ∙ ap (λ x. whole (packet head x) (length bytes)) b.0)
+
+-- a reader's fields as contracts see them
+
+abbrev pub seen : List ℕ → List ℕ → ℕ → ℕ → Bool → Bool → UpState
+seen buffer last len body_len after_login failed = record { have = take len buffer; after_login = after_login; failed = failed; body = take body_len (drop 8 last) }
+
+pub on_byte : (buffer last : List ℕ) (len body_len b : ℕ) (after_login failed : Bool) (m : UpMachine) → len < length buffer → HasTaken m after_login (take len buffer ++ b ∷ [])
+    → PushedByte (seen buffer last len body_len after_login failed) (seen (set buffer len b) last (len + 1) body_len after_login failed) b More
+on_byte buffer last len body_len b after_login failed m room taking = record {
+  verdict = has_short m after_login (take len buffer ++ b ∷ []) taking;
+  at_place = tt;
+  state = ap (λ (have : List ℕ). let s : UpState = record { have = have; after_login = after_login; failed = failed; body = take body_len (drop 8 last) } in s) (written buffer len b room);
+}
+
+pub login_byte : (buffer last : List ℕ) (len body_len b imei : ℕ) (after_login failed : Bool) → up_verdict after_login (take len buffer ++ b ∷ []) ≡ whole (login imei) (length (take len buffer ++ b ∷ []))
+    → PushedByte (seen buffer last len body_len after_login failed) (seen (set buffer len b) last 0 body_len true failed) b (Login imei)
+login_byte buffer last len body_len b imei after_login failed e = record {
+  verdict = e;
+  at_place = login_place after_login imei (take len buffer ++ b ∷ []) (whole_says after_login (login imei) (take len buffer ++ b ∷ []) e);
+  state = refl;
+}
+
+-- the body's place in a buffer is that in the frame
+body_stands : (buffer : List ℕ) (len b : ℕ) → len < length buffer → 12 ≤ len + 1 → take (len + 1 - 12) (drop 8 (set buffer len b)) ≡ body_in (take len buffer ++ b ∷ [])
+body_stands buffer len b room some =
+    let all = set buffer len b in
+    let n = len + 1 in
+    let eight : 8 + (n - 8) ≡ n = omega arith in
+    let fits : n ≤ length all = omega (arith, length-set buffer len b) in
+    let size : length (take n all) ≡ n = length-take-le n all fits in
+    let front : drop 8 (take n all) ≡ take (n - 8) (drop 8 all) = ap (λ k. drop 8 (take k all)) (sym eight) ∙ drop-take 8 (n - 8) all in
+    sym (ap body_in (sym (written buffer len b room)) ∙ ap (λ k. take (k - 12) (drop 8 (take n all))) size ∙ ap (take (n - 12)) front ∙ take-take (n - 12) (n - 8) (drop 8 all) (omega arith))
+
+pub packet_byte : (buffer last : List ℕ) (len body_len b : ℕ) (after_login failed : Bool) (head : PacketHead) → len < length buffer
+    → (body : List ℕ) × (up_verdict after_login (take len buffer ++ b ∷ []) ≡ whole (packet head body) (length (take len buffer ++ b ∷ [])))
+    → 12 ≤ len + 1
+    → PushedByte (seen buffer last len body_len after_login failed) (seen last (set buffer len b) 0 (len + 1 - 12) true failed) b (Packet head)
+packet_byte buffer last len body_len b after_login failed head room e some =
+    let p = packet_verdict_says after_login head (take len buffer ++ b ∷ []) e in
+    record {
+      verdict = p.2;
+      at_place = p.0;
+      state = ap (λ (body : List ℕ). let s : UpState = record { have = []; after_login = true; failed = failed; body = body } in s) (body_stands buffer len b room some);
+    }
+
+pub broken_byte : (buffer last : List ℕ) (len body_len b : ℕ) (after_login failed : Bool) (found : Fault) → len < length buffer
+    → up_verdict after_login (take len buffer ++ b ∷ []) ≡ fault found.kind found.place
+    → PushedByte (seen buffer last len body_len after_login failed) (seen (set buffer len b) last (len + 1) body_len after_login true) b (Broken found)
+broken_byte buffer last len body_len b after_login failed found room e = record {
+  verdict = e;
+  at_place = tt;
+  state = ap (λ (have : List ℕ). let s : UpState = record { have = have; after_login = after_login; failed = true; body = take body_len (drop 8 last) } in s) (written buffer len b room);
+}

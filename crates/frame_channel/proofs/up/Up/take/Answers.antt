@@ -1,0 +1,103 @@
+use Rattle.std.proofs.Common.{◌≡◌, ℕ, List, ◌+◌, ◌-◌, ◌<◌, ◌≤◌, ◌++◌, ◌∷◌, [], false, true, length, take, set, refl, sym, ap, subst, ◌∙◌, arith, length-append}
+use Rattle.std.proofs.lemmas.List.{length-set, length-take-le}
+use Rattle.frame_channel.specs.UpMachines.{HasTaken}
+use Rattle.frame_channel.specs.UpPushes.{PushedByte, UpState}
+use Rattle.frame_channel.specs.declared.up_item.UpItem.TheVariants.{More, Login, Packet, Broken}
+use Rattle.frame_channel.proofs.UpTakes.{broken_byte, login_byte, on_byte, packet_byte, packet_verdict_says, room_left, seen, written}
+use Rattle.frame_channel.proofs.up.Up.take.Goals as goal
+
+pub index_mut-requires : goal.index_mut-requires
+index_mut-requires g c =
+    let u = c.self.inside in
+    let i = c.self.invariant in
+    let failed : u.failed ≡ false = ap (λ (s : UpState). s.failed) c.self.view_is ∙ c.requires in
+    omega (arith, room_left u.buffer.items u.len u.after_login u.machine i.room i.fits (i.taking failed), i.room)
+
+pub invariant_of-self : goal.invariant_of-self
+invariant_of-self g c =
+    let u = c.self.inside in
+    let i = c.self.invariant in
+    let b = c.args.byte in
+    let failed : u.failed ≡ false = ap (λ (s : UpState). s.failed) c.self.view_is ∙ c.requires in
+    let taking = i.taking failed in
+    let few = room_left u.buffer.items u.len u.after_login u.machine i.room i.fits taking in
+    let on : HasTaken c.in-On.machine u.after_login (take u.len u.buffer.items ++ b ∷ []) = c.in-On.ensures.answers u.after_login (take u.len u.buffer.items) taking in
+    record {
+      room = length-set u.buffer.items u.len b ∙ i.room;
+      last_room = i.last_room;
+      fits = omega arith;
+      body_fits = i.body_fits;
+      taking = λ up. subst (HasTaken c.in-On.machine u.after_login) (sym (written u.buffer.items u.len b (omega (arith, i.room)))) on;
+    }
+
+pub overflow_sub-self : goal.overflow_sub-self
+overflow_sub-self g c =
+    let u = c.self.inside in
+    let i = c.self.invariant in
+    let b = c.args.byte in
+    let failed : u.failed ≡ false = ap (λ (s : UpState). s.failed) c.self.view_is ∙ c.requires in
+    let have = take u.len u.buffer.items in
+    let says = packet_verdict_says u.after_login c.in-Packet.head (have ++ b ∷ []) (c.in-Packet.ensures.answers u.after_login have (i.taking failed)) in
+    omega (arith, says.1, length-append have (b ∷ []), length-take-le u.len u.buffer.items (omega (arith, i.room, i.fits)))
+
+pub invariant_of-self-in-Broken : goal.invariant_of-self-in-Broken
+invariant_of-self-in-Broken g c =
+    let u = c.self.inside in
+    let i = c.self.invariant in
+    let failed : u.failed ≡ false = ap (λ (s : UpState). s.failed) c.self.view_is ∙ c.requires in
+    let few = room_left u.buffer.items u.len u.after_login u.machine i.room i.fits (i.taking failed) in
+    record {
+      room = length-set u.buffer.items u.len c.args.byte ∙ i.room;
+      last_room = i.last_room;
+      fits = omega arith;
+      body_fits = i.body_fits;
+      taking = λ up. absurd (cc);
+    }
+
+pub returns-in-On-clause-pushed : goal.returns-in-On-clause-pushed
+returns-in-On-clause-pushed g c =
+    let u = c.self.inside in
+    let i = c.self.invariant in
+    let b = c.args.byte in
+    let failed : u.failed ≡ false = ap (λ (s : UpState). s.failed) c.self.view_is ∙ c.requires in
+    let taking = i.taking failed in
+    let few = room_left u.buffer.items u.len u.after_login u.machine i.room i.fits taking in
+    let on : HasTaken c.in-On.machine u.after_login (take u.len u.buffer.items ++ b ∷ []) = c.in-On.ensures.answers u.after_login (take u.len u.buffer.items) taking in
+    subst (λ (s : UpState). PushedByte s (seen (set u.buffer.items u.len b) u.last.items (u.len + 1) u.body_len u.after_login u.failed) b More) c.self.view_is
+    (on_byte u.buffer.items u.last.items u.len u.body_len b u.after_login u.failed c.in-On.machine (omega (arith, i.room)) on)
+
+pub returns-in-Login-clause-pushed : goal.returns-in-Login-clause-pushed
+returns-in-Login-clause-pushed g c =
+    let u = c.self.inside in
+    let i = c.self.invariant in
+    let b = c.args.byte in
+    let failed : u.failed ≡ false = ap (λ (s : UpState). s.failed) c.self.view_is ∙ c.requires in
+    subst (λ (s : UpState). PushedByte s (seen (set u.buffer.items u.len b) u.last.items 0 u.body_len true u.failed) b (Login c.in-Login.imei)) c.self.view_is
+    (login_byte u.buffer.items u.last.items u.len u.body_len b c.in-Login.imei u.after_login u.failed (c.in-Login.ensures.answers u.after_login (take u.len u.buffer.items) (i.taking failed)))
+
+pub returns-in-Packet-clause-pushed : goal.returns-in-Packet-clause-pushed
+returns-in-Packet-clause-pushed g c =
+    let u = c.self.inside in
+    let i = c.self.invariant in
+    let b = c.args.byte in
+    let failed : u.failed ≡ false = ap (λ (s : UpState). s.failed) c.self.view_is ∙ c.requires in
+    let taking = i.taking failed in
+    let few = room_left u.buffer.items u.len u.after_login u.machine i.room i.fits taking in
+    let have = take u.len u.buffer.items in
+    let e = c.in-Packet.ensures.answers u.after_login have taking in
+    let says = packet_verdict_says u.after_login c.in-Packet.head (have ++ b ∷ []) e in
+    let some : 12 ≤ u.len + 1 = omega (arith, says.1, length-append have (b ∷ []), length-take-le u.len u.buffer.items (omega (arith, i.room, i.fits))) in
+    subst (λ (s : UpState). PushedByte s (seen c.swap.new.x.items c.swap.new.y.items 0 (u.len + 1 - 12) true u.failed) b (Packet c.in-Packet.head)) c.self.view_is
+    (subst (λ (y : List ℕ). PushedByte (seen u.buffer.items u.last.items u.len u.body_len u.after_login u.failed) (seen c.swap.new.x.items y 0 (u.len + 1 - 12) true u.failed) b (Packet c.in-Packet.head)) (ap (λ v. v.items) (sym c.swap.ensures.y_after))
+    (packet_byte u.buffer.items u.last.items u.len u.body_len b u.after_login u.failed c.in-Packet.head (omega (arith, i.room)) e some))
+
+pub returns-in-Broken-clause-pushed : goal.returns-in-Broken-clause-pushed
+returns-in-Broken-clause-pushed g c =
+    let u = c.self.inside in
+    let i = c.self.invariant in
+    let b = c.args.byte in
+    let failed : u.failed ≡ false = ap (λ (s : UpState). s.failed) c.self.view_is ∙ c.requires in
+    let taking = i.taking failed in
+    let few = room_left u.buffer.items u.len u.after_login u.machine i.room i.fits taking in
+    subst (λ (s : UpState). PushedByte s (seen (set u.buffer.items u.len b) u.last.items (u.len + 1) u.body_len u.after_login true) b (Broken c.in-Broken.found)) c.self.view_is
+    (broken_byte u.buffer.items u.last.items u.len u.body_len b u.after_login u.failed c.in-Broken.found (omega (arith, i.room)) (c.in-Broken.ensures.answers u.after_login (take u.len u.buffer.items) taking))

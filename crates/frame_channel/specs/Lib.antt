@@ -1,0 +1,9 @@
+pub mod DownBuffers
+pub mod DownCursors
+pub mod DownMachines
+pub mod DownPushes
+pub mod Fields
+pub mod UpBuffers
+pub mod UpCursors
+pub mod UpMachines
+pub mod UpPushes

@@ -1,0 +1,162 @@
+//! A stream down, in any pieces.
+ghost use Rattle.std.specs.Prelude.{◌≡◌, ◌+◌, ◌<◌, ◌≤◌, [], false, length};
+ghost use Rattle.layout.specs.Rows.{short};
+ghost use Rattle.frame_layout.specs.DownRows.{down_verdict};
+ghost use Rattle.frame_channel.specs.DownPushes.{Pushed, PushedByte, before_answer, before_counts};
+
+use crate::down_item::DownItem;
+use crate::down_machine::{DownMachine, DownStep};
+use arrayvec::ArrayVec;
+use std::marker::{Brand, Model};
+use std::sync::ledger::{Blank, Ledger};
+use step_count::Steps;
+
+/// A reader of a stream down: the login's answer, and then counts. It is seen as the bytes of its unfinished item, whether the
+/// login's answer has come, whether it has failed, and the body of the frame that was last whole. It takes no memory.
+#[derive(Drop)]
+pub struct Down {
+    buffer: ArrayVec<u8, 1280>,
+    machine: DownMachine,
+    after_answer: bool,
+    failed: bool,
+}
+
+impl Model for Down {
+    ghost use Rattle.std.specs.Prelude.{[]};
+    ghost use Rattle.frame_channel.specs.DownPushes.{DownState};
+    ghost use Rattle.frame_channel.specs.DownBuffers.{IsDown};
+
+    ghost Value = { DownState };
+
+    ghost view = { λ d. record { have = d.buffer.items; after_answer = d.after_answer; failed = d.failed; body = [] } };
+
+    ghost invariant = { λ d. IsDown d.buffer.items d.after_answer d.failed d.machine };
+}
+
+impl Down {
+    /// A reader before the login's answer.
+    pub fn new() -> Down
+        ensures { result ≡ before_answer }
+    {
+        Down {
+            buffer: ArrayVec::new(),
+            machine: DownMachine::answer(),
+            after_answer: false,
+            failed: false,
+        }
+    }
+
+    /// A reader behind the login's answer.
+    pub fn answers() -> Down
+        ensures { result ≡ before_counts }
+    {
+        Down {
+            buffer: ArrayVec::new(),
+            machine: DownMachine::count(),
+            after_answer: true,
+            failed: false,
+        }
+    }
+
+    /// Takes bytes up to and including the one that decides the item, or the whole piece, and says how many. It must not have
+    /// answered Broken. The decision falls on the same byte however the stream is cut.
+    pub fn push(&mut self, piece: &[u8]) -> (usize, DownItem)
+        requires { self.old.failed ≡ false }
+        ensures { Pushed self.old self.new piece.now result.0 result.1 }
+    {
+        self.push_from::<Brand>(piece, Blank::new(1))
+    }
+
+    // `push_counted` with a count of its own.
+    fn push_from<L: Ledger>(&mut self, piece: &[u8], blank: Blank) -> (usize, DownItem)
+        requires name { blank.name ≡ L.name }
+        requires parts { blank.parts ≡ L.parts }
+        requires some { 0 < blank.parts }
+        requires going { self.old.failed ≡ false }
+        ensures { Pushed self.old self.new piece.now result.0 result.1 }
+    {
+        let mut steps = Steps::<L>::new(blank);
+        self.push_counted(piece, &mut steps)
+    }
+
+    /// As `push`, with exactly one step a byte taken.
+    pub fn push_counted<L: Ledger>(
+        &mut self,
+        piece: &[u8],
+        steps: &mut Steps<L>,
+    ) -> (usize, DownItem)
+        requires { self.old.failed ≡ false }
+        ensures pushed { Pushed self.old self.new piece.now result.0 result.1 }
+        ensures steps { steps.new ≡ steps.old + result.0 }
+    {
+        self.is_unfinished();
+        for (i, byte) in piece.iter().enumerate() {
+            steps.tick();
+            match self.take(*byte) {
+                DownItem::More => {}
+                item => return (i + 1, item),
+            }
+        }
+        (piece.len(), DownItem::More)
+    }
+
+    // The bytes that it has are less than an item.
+    fn is_unfinished(&self)
+        ensures { self.now.failed ≡ false → down_verdict self.now.after_answer self.now.have ≡ short }
+    {
+        let _ = &self.machine;
+    }
+
+    // Takes one byte.
+    fn take(&mut self, byte: u8) -> DownItem
+        requires { self.old.failed ≡ false }
+        ensures { PushedByte self.old self.new byte result }
+    {
+        self.buffer.push(byte);
+        match self.machine.push(byte) {
+            DownStep::On(machine) => {
+                self.machine = machine;
+                DownItem::More
+            }
+            DownStep::Answer(answer) => {
+                self.buffer.clear();
+                self.machine = DownMachine::count();
+                self.after_answer = true;
+                DownItem::Login(answer)
+            }
+            DownStep::Count(count) => {
+                self.buffer.clear();
+                self.machine = DownMachine::count();
+                self.after_answer = true;
+                DownItem::Count(count)
+            }
+            DownStep::Broken(found) => {
+                self.failed = true;
+                DownItem::Broken(found)
+            }
+        }
+    }
+
+    /// The body of the frame that was last whole, empty before the first. So far no frame comes down.
+    pub fn body(&self) -> &[u8]
+        ensures { result.now ≡ self.now.body }
+    {
+        let _ = &self.buffer;
+        &[]
+    }
+
+    /// How many bytes it has of its unfinished item.
+    pub fn have(&self) -> u32
+        ensures is { result ≡ length self.now.have }
+        ensures few { self.now.failed ≡ false → result < 1280 }
+    {
+        self.buffer.len() as u32
+    }
+
+    /// Whether it has answered Broken.
+    pub fn failed(&self) -> bool
+        ensures { result ≡ self.now.failed }
+    {
+        self.failed
+    }
+}

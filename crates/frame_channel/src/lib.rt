@@ -1,0 +1,20 @@
+//! Readers of a TCP connection in any pieces: up, a login and then data frames; down, the login's answer and then counts. Each
+//! takes every byte once, in one step, and decides an item at the same byte however the stream is cut.
+#![tactic(auto)]
+
+mod body_reader;
+mod down;
+mod down_cursor;
+mod down_item;
+mod down_machine;
+mod field;
+mod up;
+mod up_cursor;
+mod up_item;
+mod up_machine;
+
+pub use down::Down;
+pub use down_item::DownItem;
+pub use frame_layout::{write_count, write_frame, write_login};
+pub use up::Up;
+pub use up_item::UpItem;

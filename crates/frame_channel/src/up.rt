@@ -1,0 +1,181 @@
+//! A stream up, in any pieces.
+ghost use Rattle.std.specs.Prelude.{◌≡◌, ◌+◌, ◌<◌, ◌≤◌, [], false, true, length, IfOk};
+ghost use Rattle.layout.specs.Rows.{short};
+ghost use Rattle.frame_layout.specs.UpRows.{up_verdict};
+ghost use Rattle.frame_channel.specs.UpPushes.{Pushed, PushedByte, before_frames, before_login};
+
+use crate::up_item::UpItem;
+use crate::up_machine::{UpMachine, UpStep};
+use avl_values::NoMemory;
+use std::alloc::Global;
+use std::marker::{Brand, Model};
+use std::mem::swap;
+use std::sync::ledger::{Blank, Ledger};
+use step_count::Steps;
+
+// The bytes of the longest frame: eight, a body of 65,535, and four.
+const LONGEST: usize = 65_547;
+
+fn zeros(alloc: Global, len: usize) -> Result<Vec<u8>, NoMemory>
+    ensures { IfOk result (λ bytes. length bytes.items ≡ len) }
+{
+    Ok(vec![in alloc; 0; len]?)
+}
+
+/// A reader of a stream up: a login, and then data frames. It is seen as the bytes of its unfinished item, whether the login has
+/// come, whether it has failed, and the body of the frame that was last whole. Its memory is taken at once.
+#[derive(Drop)]
+pub struct Up {
+    buffer: Vec<u8>,
+    len: usize,
+    last: Vec<u8>,
+    body_len: usize,
+    machine: UpMachine,
+    after_login: bool,
+    failed: bool,
+}
+
+impl Model for Up {
+    ghost use Rattle.std.specs.Prelude.{drop, take};
+    ghost use Rattle.frame_channel.specs.UpPushes.{UpState};
+    ghost use Rattle.frame_channel.specs.UpBuffers.{IsUp};
+
+    ghost Value = { UpState };
+
+    ghost view = { λ u. record { have = take u.len u.buffer.items; after_login = u.after_login; failed = u.failed; body = take u.body_len (drop 8 u.last.items) } };
+
+    ghost invariant = { λ u. IsUp u.buffer.items u.last.items u.len u.body_len u.after_login u.failed u.machine };
+}
+
+impl Up {
+    /// A reader before the login.
+    pub fn new(alloc: Global) -> Result<Up, NoMemory>
+        ensures { IfOk result (λ up. up ≡ before_login) }
+    {
+        Ok(Up {
+            buffer: zeros(alloc, LONGEST)?,
+            len: 0,
+            last: zeros(alloc, LONGEST)?,
+            body_len: 0,
+            machine: UpMachine::login(),
+            after_login: false,
+            failed: false,
+        })
+    }
+
+    /// A reader behind a login.
+    pub fn frames(alloc: Global) -> Result<Up, NoMemory>
+        ensures { IfOk result (λ up. up ≡ before_frames) }
+    {
+        Ok(Up {
+            buffer: zeros(alloc, LONGEST)?,
+            len: 0,
+            last: zeros(alloc, LONGEST)?,
+            body_len: 0,
+            machine: UpMachine::frame(),
+            after_login: true,
+            failed: false,
+        })
+    }
+
+    /// Takes bytes up to and including the one that decides the item, or the whole piece, and says how many. It must not have
+    /// answered Broken. The decision falls on the same byte however the stream is cut.
+    pub fn push(&mut self, piece: &[u8]) -> (usize, UpItem)
+        requires { self.old.failed ≡ false }
+        ensures { Pushed self.old self.new piece.now result.0 result.1 }
+    {
+        self.push_from::<Brand>(piece, Blank::new(1))
+    }
+
+    // `push_counted` with a count of its own.
+    fn push_from<L: Ledger>(&mut self, piece: &[u8], blank: Blank) -> (usize, UpItem)
+        requires name { blank.name ≡ L.name }
+        requires parts { blank.parts ≡ L.parts }
+        requires some { 0 < blank.parts }
+        requires going { self.old.failed ≡ false }
+        ensures { Pushed self.old self.new piece.now result.0 result.1 }
+    {
+        let mut steps = Steps::<L>::new(blank);
+        self.push_counted(piece, &mut steps)
+    }
+
+    /// As `push`, with exactly one step a byte taken.
+    pub fn push_counted<L: Ledger>(&mut self, piece: &[u8], steps: &mut Steps<L>) -> (usize, UpItem)
+        requires { self.old.failed ≡ false }
+        ensures pushed { Pushed self.old self.new piece.now result.0 result.1 }
+        ensures steps { steps.new ≡ steps.old + result.0 }
+    {
+        self.is_unfinished();
+        for (i, byte) in piece.iter().enumerate() {
+            match self.take(*byte, steps) {
+                UpItem::More => {}
+                item => return (i + 1, item),
+            }
+        }
+        (piece.len(), UpItem::More)
+    }
+
+    // The bytes that it has are less than an item.
+    fn is_unfinished(&self)
+        ensures { self.now.failed ≡ false → up_verdict self.now.after_login self.now.have ≡ short }
+    {
+        let _ = &self.machine;
+    }
+
+    // Takes one byte.
+    fn take<L: Ledger>(&mut self, byte: u8, steps: &mut Steps<L>) -> UpItem
+        requires { self.old.failed ≡ false }
+        ensures pushed { PushedByte self.old self.new byte result }
+        ensures step { steps.new ≡ steps.old + 1 }
+    {
+        let len = self.len;
+        self.buffer[len] = byte;
+        self.len = len + 1;
+        match self.machine.push(byte, steps) {
+            UpStep::On(machine) => {
+                self.machine = machine;
+                UpItem::More
+            }
+            UpStep::Login(imei) => {
+                self.len = 0;
+                self.machine = UpMachine::frame();
+                self.after_login = true;
+                UpItem::Login(imei)
+            }
+            UpStep::Packet(head) => {
+                swap(&mut self.buffer, &mut self.last);
+                self.body_len = len + 1 - 12;
+                self.len = 0;
+                self.machine = UpMachine::frame();
+                self.after_login = true;
+                UpItem::Packet(head)
+            }
+            UpStep::Broken(found) => {
+                self.failed = true;
+                UpItem::Broken(found)
+            }
+        }
+    }
+
+    /// The body of the frame that was last whole, empty before the first.
+    pub fn body(&self) -> &[u8]
+        ensures { result.now ≡ self.now.body }
+    {
+        &self.last[8..8 + self.body_len]
+    }
+
+    /// How many bytes it has of its unfinished item.
+    pub fn have(&self) -> u32
+        ensures is { result ≡ length self.now.have }
+        ensures few { self.now.failed ≡ false → result < 65547 }
+    {
+        self.len as u32
+    }
+
+    /// Whether it has answered Broken.
+    pub fn failed(&self) -> bool
+        ensures { result ≡ self.now.failed }
+    {
+        self.failed
+    }
+}
