@@ -2,8 +2,10 @@ pub mod DownBuffers
 pub mod DownCursors
 pub mod DownMachines
 pub mod DownPushes
+pub mod DownReadings
 pub mod Fields
 pub mod UpBuffers
 pub mod UpCursors
 pub mod UpMachines
 pub mod UpPushes
+pub mod UpReadings
