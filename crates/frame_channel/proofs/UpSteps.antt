@@ -5,7 +5,8 @@ use Rattle.record_codecs.proofs.MachineSteps.{taken_short}
 use Rattle.frame_layout.specs.UpRows.{up_rows, up_verdict}
 use Rattle.frame_layout.proofs.Lengths.{short_up_few}
 use Rattle.frame_channel.specs.UpCursors.{rows_at}
-use Rattle.frame_channel.specs.UpMachines.{HasTaken, InBody}
+use Rattle.frame_channel.specs.Bodies.{InBody}
+use Rattle.frame_channel.specs.UpMachines.{HasTaken}
 use Rattle.frame_channel.specs.declared.body_reader.BodyReader.{BodyReader}
 use Rattle.frame_channel.specs.declared.up_machine.UpMachine.{UpMachine}
 use Rattle.frame_channel.specs.declared.up_machine.UpMachine.TheVariants as machine

@@ -1,3 +1,4 @@
+pub mod Bodies
 pub mod DownBuffers
 pub mod DownCursors
 pub mod DownMachines
