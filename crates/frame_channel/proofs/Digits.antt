@@ -1,5 +1,5 @@
 -- A number of decimal digits, one digit more.
-use Rattle.std.proofs.Common.{◌≡◌, ℕ, ◌+◌, ◌-◌, ◌*◌, ◌<◌, ◌≤◌, ◌^◌, ap, subst, arith}
+use Rattle.std.proofs.Common.{◌≡◌, ℕ, ◌+◌, ◌-◌, ◌*◌, ◌<◌, ◌≤◌, ◌^◌, subst, arith}
 use Rattle.avl_values.proofs.Places.{below-power, power-more}
 
 pub digit_room : (left n : ℕ) → left ≤ 14 → n < 10 ^ (14 - left) → n < 10 ^ 14

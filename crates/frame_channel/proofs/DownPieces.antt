@@ -1,5 +1,5 @@
 -- A reader of a stream down that goes on through a piece.
-use Rattle.std.proofs.Common.{◌≡◌, ℕ, ◌+◌, ◌<◌, ◌≤◌, ◌⊎◌, inl, inr, Bool, false, List, [], ◌∷◌, ◌++◌, length, take, get_or, refl, sym, ap, subst, ◌∙◌, arith, append_assoc, below_more}
+use Rattle.std.proofs.Common.{◌≡◌, ℕ, ◌+◌, ◌<◌, false, List, [], ◌∷◌, ◌++◌, length, take, get_or, refl, sym, ap, subst, ◌∙◌, arith, append_assoc, below_more}
 use Rattle.std.proofs.lemmas.List.{append-nil, take_more}
 use Rattle.layout.specs.Rows.{short}
 use Rattle.frame_layout.specs.DownRows.{down_verdict}

@@ -1,9 +1,7 @@
 -- An item down, byte by byte.
-use Rattle.std.proofs.Common.{◌≡◌, ℕ, ◌+◌, ◌<◌, ◌≤◌, ◌^◌, Bool, true, false, List, [], ◌∷◌, ◌++◌, length, Some, refl, sym, ap, subst, ◌∙◌, arith}
-use Rattle.std.proofs.Math.Seq.{take-length}
+use Rattle.std.proofs.Common.{◌≡◌, ℕ, ◌<◌, Bool, true, false, List, [], ◌∷◌, ◌++◌, length, Some, refl, ap, arith}
 use Rattle.avl_values.specs.declared.fault.Fault.{Fault}
 use Rattle.avl_values.specs.declared.fault.FaultKind.TheVariants.{UnknownCodec}
-use Rattle.layout.specs.Fields.{number}
 use Rattle.layout.specs.Next.{rule_of, width_of}
 use Rattle.layout.specs.Rows.{Rows, body, done, fault, refuse, short, whole}
 use Rattle.layout.proofs.RowLaws.{filled}

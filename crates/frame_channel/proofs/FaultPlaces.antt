@@ -2,7 +2,7 @@
 use Rattle.std.proofs.Common.{◌≡◌, ℕ, ◌+◌, ◌<◌, ◌≤◌, ◌⊎◌, inl, inr, List, length, take, drop, Option, Some, None, sym, ◌∙◌, arith, length-drop}
 use Rattle.std.proofs.lemmas.Bool.{cases_lt}
 use Rattle.avl_values.specs.declared.fault.FaultKind.{FaultKind}
-use Rattle.layout.specs.Rows.{Rows, done, refuse, row, Verdict, whole, short, fault, judge, unless_fault}
+use Rattle.layout.specs.Rows.{Rows, done, refuse, row, Verdict, fault, judge, unless_fault}
 use Rattle.layout.proofs.Judging.{judge_done, judge_long, judge_refuse, judge_short}
 
 place_by : {V : Type 0} (found : Option FaultKind) (place most : ℕ) (v : Verdict V) (kind : FaultKind) (p : ℕ) → unless_fault found place v ≡ fault kind p → place ≤ most → (v ≡ fault kind p → p ≤ most) → p ≤ most

@@ -1,9 +1,12 @@
 pub mod BodySteps
 pub mod Digits
 pub mod DownPieces
+pub mod DownReads
 pub mod DownSteps
 pub mod FaultPlaces
 pub mod FieldSteps
+pub mod StreamSteps
 pub mod UpPieces
+pub mod UpReads
 pub mod UpSteps
 pub mod UpTakes

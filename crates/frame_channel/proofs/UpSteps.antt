@@ -1,16 +1,13 @@
 -- An item up, byte by byte.
-use Rattle.std.proofs.Common.{◌≡◌, ℕ, ◌+◌, ◌<◌, ◌≤◌, Bool, true, false, List, [], ◌∷◌, ◌++◌, length, refl, sym, ap, ◌∙◌, arith, length-append}
-use Rattle.std.proofs.lemmas.List.{append-nil}
+use Rattle.std.proofs.Common.{◌≡◌, ℕ, ◌<◌, Bool, List, length, ap, ◌∙◌}
 use Rattle.layout.specs.Rows.{judge, short}
-use Rattle.record_layout.specs.PacketRows.{packet_rows}
 use Rattle.record_codecs.proofs.MachineSteps.{taken_short}
 use Rattle.frame_layout.specs.UpRows.{up_rows, up_verdict}
 use Rattle.frame_layout.proofs.Lengths.{short_up_few}
 use Rattle.frame_channel.specs.UpCursors.{rows_at}
-use Rattle.frame_channel.specs.UpMachines.{AtCursor, HasTaken, InBody}
+use Rattle.frame_channel.specs.Bodies.{InBody}
+use Rattle.frame_channel.specs.UpMachines.{HasTaken}
 use Rattle.frame_channel.specs.declared.body_reader.BodyReader.{BodyReader}
-use Rattle.frame_channel.specs.declared.field.Field.{Field}
-use Rattle.frame_channel.specs.declared.up_cursor.UpCursor.{UpCursor}
 use Rattle.frame_channel.specs.declared.up_machine.UpMachine.{UpMachine}
 use Rattle.frame_channel.specs.declared.up_machine.UpMachine.TheVariants as machine
 use Rattle.frame_channel.proofs.BodySteps.{body_short_yet}

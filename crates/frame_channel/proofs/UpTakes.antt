@@ -9,7 +9,6 @@ use Rattle.record_layout.specs.declared.head.PacketHead.{PacketHead}
 use Rattle.frame_layout.specs.UpRows.{up_rows, up_verdict}
 use Rattle.frame_layout.specs.Values.{UpValue, login, packet}
 use Rattle.frame_layout.proofs.Places.{SaysAt, SaysPacket, says_at}
-use Rattle.frame_channel.specs.UpBuffers.{IsUp}
 use Rattle.frame_channel.specs.UpMachines.{HasTaken}
 use Rattle.frame_channel.specs.UpPushes.{PushedByte, UpState, body_in}
 use Rattle.frame_channel.specs.declared.up_item.UpItem.TheVariants.{More, Login, Packet, Broken}

@@ -1,7 +1,7 @@
 -- What is left of an item down at a place of the code.
 use Rattle.std.specs.Prelude.{◌≡◌, ℕ, ◌<◌, List, Some, None}
 use Rattle.layout.specs.Rows.{Rows, done, body}
-use Rattle.layout.specs.Next.{rule_of, rows_after, width_of}
+use Rattle.layout.specs.Next.{rule_of, rows_after}
 use Rattle.frame_layout.specs.DownRows.{answer_rows, count_rows, order_length_rows, order_rows}
 use Rattle.frame_layout.specs.Values.{DownValue, answer, count}
 use Rattle.frame_channel.specs.declared.down_cursor.DownCursor.{DownCursor}

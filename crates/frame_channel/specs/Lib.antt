@@ -1,9 +1,12 @@
+pub mod Bodies
 pub mod DownBuffers
 pub mod DownCursors
 pub mod DownMachines
 pub mod DownPushes
+pub mod DownReadings
 pub mod Fields
 pub mod UpBuffers
 pub mod UpCursors
 pub mod UpMachines
 pub mod UpPushes
+pub mod UpReadings

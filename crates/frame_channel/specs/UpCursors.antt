@@ -1,7 +1,7 @@
 -- What is left of an item up at a place of the code.
-use Rattle.std.specs.Prelude.{◌≡◌, ℕ, suc, ◌+◌, ◌-◌, ◌<◌, ◌≤◌, ◌^◌, List, Some, None}
+use Rattle.std.specs.Prelude.{◌≡◌, ℕ, suc, ◌-◌, ◌<◌, ◌≤◌, ◌^◌, List, Some, None}
 use Rattle.layout.specs.Rows.{Rows, done}
-use Rattle.layout.specs.Next.{rule_of, rows_after, width_of}
+use Rattle.layout.specs.Next.{rule_of, rows_after}
 use Rattle.record_layout.specs.PacketRows.{packet_rows}
 use Rattle.frame_layout.specs.FrameRows.{body_rows, crc_low_rows, crc_rows, length_rows}
 use Rattle.frame_layout.specs.UpRows.{data_frame_rows, digit_rows, login_rows}

@@ -1,5 +1,5 @@
 -- What a reader of a stream up does with a piece.
-use Rattle.std.specs.Prelude.{◌≡◌, ℕ, ◌+◌, ◌-◌, ◌<◌, ◌≤◌, Bool, true, false, List, [], ◌∷◌, ◌++◌, length, take, drop}
+use Rattle.std.specs.Prelude.{◌≡◌, ℕ, ◌-◌, ◌<◌, ◌≤◌, Bool, true, false, List, [], ◌∷◌, ◌++◌, length, take, drop}
 use Rattle.layout.specs.Rows.{Verdict, whole, short, fault}
 use Rattle.frame_layout.specs.UpRows.{up_verdict}
 use Rattle.frame_layout.specs.Values.{UpValue, login, packet}

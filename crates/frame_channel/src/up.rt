@@ -5,7 +5,7 @@ ghost use Rattle.frame_layout.specs.UpRows.{up_verdict};
 ghost use Rattle.frame_channel.specs.UpPushes.{Pushed, PushedByte, before_frames, before_login};
 
 use crate::up_item::UpItem;
-use crate::up_machine::{UpMachine, UpStep};
+use crate::up_machine::UpMachine;
 use avl_values::NoMemory;
 use std::alloc::Global;
 use std::marker::{Brand, Model};
@@ -132,17 +132,14 @@ impl Up {
         self.buffer[len] = byte;
         self.len = len + 1;
         match self.machine.push(byte, steps) {
-            UpStep::On(machine) => {
-                self.machine = machine;
-                UpItem::More
-            }
-            UpStep::Login(imei) => {
+            UpItem::More => UpItem::More,
+            UpItem::Login(imei) => {
                 self.len = 0;
                 self.machine = UpMachine::frame();
                 self.after_login = true;
                 UpItem::Login(imei)
             }
-            UpStep::Packet(head) => {
+            UpItem::Packet(head) => {
                 swap(&mut self.buffer, &mut self.last);
                 self.body_len = len + 1 - 12;
                 self.len = 0;
@@ -150,7 +147,7 @@ impl Up {
                 self.after_login = true;
                 UpItem::Packet(head)
             }
-            UpStep::Broken(found) => {
+            UpItem::Broken(found) => {
                 self.failed = true;
                 UpItem::Broken(found)
             }

@@ -1,13 +1,13 @@
 //! An item up, judged byte by byte.
 ghost use Rattle.std.specs.Prelude.{◌≡◌, ◌+◌, ℕ, Bool, List, [], ◌∷◌, ◌++◌, false, true};
-ghost use Rattle.frame_channel.specs.UpMachines.{Answers, AtCursor, HasTaken, InBody, IsTaking};
+ghost use Rattle.frame_channel.specs.UpMachines.{Answers, AtCursor, FieldAnswers, HasTaken, IsTaking};
 ghost use Rattle.frame_channel.specs.declared.up_machine.UpMachine.TheVariants as up;
 
-use crate::body_reader::BodyReader;
+use crate::body_reader::{BodyReader, BodyStep};
 use crate::field::Field;
 use crate::up_cursor::{UpCursor, UpNext};
+use crate::up_item::UpItem;
 use avl_values::{Fault, Imei};
-use record_codecs::Scan;
 use record_layout::PacketHead;
 use std::sync::ledger::Ledger;
 use step_count::Steps;
@@ -21,9 +21,9 @@ pub enum UpMachine {
     Body(BodyReader),
 }
 
-/// What a byte brings: the machine goes on, or the item is decided.
+/// What a byte of a field brings: the machine goes on, or the item is decided.
 #[derive(Clone, Copy)]
-pub enum UpStep {
+pub enum FieldStep {
     On(UpMachine),
     Login(Imei),
     Packet(PacketHead),
@@ -46,63 +46,57 @@ impl UpMachine {
     }
 
     /// Takes the next byte, in one step. The answer is the verdict on all bytes so far.
-    pub fn push<L: Ledger>(self, byte: u8, steps: &mut Steps<L>) -> UpStep
-        requires { IsTaking self }
-        ensures answers { (after_login : Bool) (bytes : List ℕ) → HasTaken self after_login bytes → Answers after_login (bytes ++ byte ∷ []) result }
+    pub fn push<L: Ledger>(&mut self, byte: u8, steps: &mut Steps<L>) -> UpItem
+        requires { IsTaking self.old }
+        ensures answers { (after_login : Bool) (bytes : List ℕ) → HasTaken self.old after_login bytes → Answers self.new after_login (bytes ++ byte ∷ []) result }
         ensures step { steps.new ≡ steps.old + 1 }
     {
         match self {
             UpMachine::Field(cursor, field) => {
                 steps.tick();
-                push_field(cursor, field, byte)
+                match push_field(*cursor, *field, byte) {
+                    FieldStep::On(machine) => {
+                        *self = machine;
+                        UpItem::More
+                    }
+                    FieldStep::Login(imei) => UpItem::Login(imei),
+                    FieldStep::Packet(head) => UpItem::Packet(head),
+                    FieldStep::Broken(found) => UpItem::Broken(found),
+                }
             }
-            UpMachine::Body(reader) => push_body(reader, byte, steps),
+            UpMachine::Body(reader) => match reader.push(byte, steps) {
+                BodyStep::More => UpItem::More,
+                BodyStep::Whole(head, crc, end) => {
+                    *self = UpMachine::Field(UpCursor::CrcHigh(head, crc), Field::new(end, 2));
+                    UpItem::More
+                }
+                BodyStep::Broken(found) => UpItem::Broken(found),
+            },
         }
     }
 }
 
 // A byte of a field outside of a body.
-fn push_field(cursor: UpCursor, field: Field, byte: u8) -> UpStep
+fn push_field(cursor: UpCursor, field: Field, byte: u8) -> FieldStep
     requires { IsTaking (up.Field cursor field) }
-    ensures { (after_login : Bool) (bytes : List ℕ) → AtCursor after_login cursor field bytes → Answers after_login (bytes ++ byte ∷ []) result }
+    ensures { (after_login : Bool) (bytes : List ℕ) → AtCursor after_login cursor field bytes → FieldAnswers after_login (bytes ++ byte ∷ []) result }
 {
     let mut field = field;
     match field.push(byte) {
-        None => UpStep::On(UpMachine::Field(cursor, field)),
+        None => FieldStep::On(UpMachine::Field(cursor, field)),
         Some(value) => match cursor.next(value) {
             UpNext::Field(next) => {
-                UpStep::On(UpMachine::Field(next, Field::new(field.end(), next.width())))
+                FieldStep::On(UpMachine::Field(next, Field::new(field.end(), next.width())))
             }
             UpNext::Body(total) => {
-                UpStep::On(UpMachine::Body(BodyReader::new(field.end(), total)))
+                FieldStep::On(UpMachine::Body(BodyReader::new(field.end(), total)))
             }
-            UpNext::Login(imei) => UpStep::Login(imei),
-            UpNext::Packet(head) => UpStep::Packet(head),
-            UpNext::Fault(kind) => UpStep::Broken(Fault {
+            UpNext::Login(imei) => FieldStep::Login(imei),
+            UpNext::Packet(head) => FieldStep::Packet(head),
+            UpNext::Fault(kind) => FieldStep::Broken(Fault {
                 kind,
                 place: field.start(),
             }),
         },
-    }
-}
-
-// A byte of a body.
-fn push_body<L: Ledger>(reader: BodyReader, byte: u8, steps: &mut Steps<L>) -> UpStep
-    requires { IsTaking (up.Body reader) }
-    ensures answers { (after_login : Bool) (bytes : List ℕ) → InBody after_login reader bytes → Answers after_login (bytes ++ byte ∷ []) result }
-    ensures step { steps.new ≡ steps.old + 1 }
-{
-    let mut reader = reader;
-    reader.crc.push(byte);
-    match reader.machine.push(byte, steps) {
-        Scan::More => UpStep::On(UpMachine::Body(reader)),
-        Scan::Whole(head) => {
-            let cursor = UpCursor::CrcHigh(head, reader.crc.value());
-            UpStep::On(UpMachine::Field(cursor, Field::new(reader.start + reader.total, 2)))
-        }
-        Scan::Broken(found) => UpStep::Broken(Fault {
-            kind: found.kind,
-            place: reader.start + found.place,
-        }),
     }
 }

@@ -1,6 +1,6 @@
 -- What an item says at its place: up a login at the first, and behind it a frame with its body; down the login's answer at the
 -- first, and counts behind it.
-use Rattle.std.proofs.Common.{◌≡◌, ℕ, zero, suc, ◌+◌, ◌-◌, ◌*◌, ◌==◌, ◌&&◌, ◌≤◌, Bool, true, false, List, [], ◌++◌, length, take, drop, Some, None, if◌then◌else◌, refl, sym, ap, subst, ◌∙◌, arith, length-append, length-drop, append_assoc}
+use Rattle.std.proofs.Common.{◌≡◌, ℕ, zero, suc, ◌+◌, ◌-◌, ◌*◌, ◌==◌, ◌&&◌, ◌≤◌, Bool, true, false, List, [], ◌++◌, length, take, drop, Some, None, if◌then◌else◌, sym, ap, ◌∙◌, arith, length-append, length-drop, append_assoc}
 use Rattle.std.specs.Prelude.{nat_le}
 use Rattle.std.proofs.Math.Seq.{drop-append_seam}
 use Rattle.std.proofs.lemmas.List.{length-take-le}
@@ -9,7 +9,7 @@ use Rattle.avl_values.specs.declared.fault.FaultKind.TheVariants.{CrcHigh, CrcMi
 use Rattle.crc_field.specs.Crc.{crc_of}
 use Rattle.layout.specs.Fields.{fault_unless, number}
 use Rattle.layout.specs.Nested.{with_bytes}
-use Rattle.layout.specs.Rows.{Rows, body, done, refuse, Fills}
+use Rattle.layout.specs.Rows.{body, done, refuse, Fills}
 use Rattle.layout.proofs.Filling.{done_filled, no_refusal, row_filled}
 use Rattle.layout.proofs.WithinLaws.{inside}
 use Rattle.record_layout.specs.PacketRows.{packet_rows}

@@ -4,3 +4,5 @@
 
 #[cfg(test)]
 mod flash;
+#[cfg(test)]
+mod frames;

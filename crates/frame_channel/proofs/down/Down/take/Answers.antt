@@ -1,7 +1,7 @@
-use Rattle.std.proofs.Common.{◌≡◌, ◌<◌, ◌++◌, ◌∷◌, [], List, ℕ, false, true, refl, sym, ap, subst, ◌∙◌, arith}
+use Rattle.std.proofs.Common.{◌≡◌, List, ℕ, false, true, sym, ap, subst, ◌∙◌, arith}
 use Rattle.frame_channel.specs.DownPushes.{DownState, PushedByte}
-use Rattle.frame_channel.specs.declared.down_item.DownItem.TheVariants.{More, Login, Count, Broken}
-use Rattle.frame_channel.proofs.DownSteps.{answer_byte, broken_byte, count_byte, has_few, on_byte, seen}
+use Rattle.frame_channel.specs.declared.down_item.DownItem.TheVariants.{More, Login, Count}
+use Rattle.frame_channel.proofs.DownSteps.{answer_byte, count_byte, has_few, on_byte, seen}
 use Rattle.frame_channel.proofs.down.Down.take.Goals as goal
 
 pub push-requires : goal.push-requires

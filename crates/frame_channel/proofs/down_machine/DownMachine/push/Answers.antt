@@ -1,4 +1,4 @@
-use Rattle.std.proofs.Common.{◌≡◌, ◌<◌, List, [], ◌∷◌, ◌++◌, length, sym, ap, ◌∙◌, arith}
+use Rattle.std.proofs.Common.{[], ◌∷◌, ◌++◌, sym, ap, ◌∙◌, arith}
 use Rattle.layout.specs.Rows.{done, fault}
 use Rattle.frame_layout.specs.DownRows.{down_rows}
 use Rattle.frame_layout.specs.Values.{answer, count}

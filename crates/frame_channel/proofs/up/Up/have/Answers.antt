@@ -1,4 +1,4 @@
-use Rattle.std.proofs.Common.{◌≡◌, false, sym, ap, ◌∙◌, arith}
+use Rattle.std.proofs.Common.{◌≡◌, false, ap, ◌∙◌}
 use Rattle.frame_channel.specs.UpPushes.{UpState}
 use Rattle.frame_channel.proofs.UpTakes.{room_left}
 use Rattle.frame_channel.proofs.up.Up.have.Goals as goal

@@ -1,4 +1,4 @@
-use Rattle.std.proofs.Common.{◌≡◌, ℕ, List, ◌+◌, ◌-◌, ◌<◌, ◌≤◌, ◌++◌, ◌∷◌, [], false, true, length, take, set, refl, sym, ap, subst, ◌∙◌, arith, length-append}
+use Rattle.std.proofs.Common.{◌≡◌, ℕ, List, ◌+◌, ◌-◌, ◌≤◌, ◌++◌, ◌∷◌, [], false, true, take, set, sym, ap, subst, ◌∙◌, arith, length-append}
 use Rattle.std.proofs.lemmas.List.{length-set, length-take-le}
 use Rattle.frame_channel.specs.UpMachines.{HasTaken}
 use Rattle.frame_channel.specs.UpPushes.{PushedByte, UpState}
@@ -21,13 +21,13 @@ invariant_of-self g c =
     let failed : u.failed ≡ false = ap (λ (s : UpState). s.failed) c.self.view_is ∙ c.requires in
     let taking = i.taking failed in
     let few = room_left u.buffer.items u.len u.after_login u.machine i.room i.fits taking in
-    let on : HasTaken c.in-On.machine u.after_login (take u.len u.buffer.items ++ b ∷ []) = c.in-On.ensures.answers u.after_login (take u.len u.buffer.items) taking in
+    let on : HasTaken c.push.new.self u.after_login (take u.len u.buffer.items ++ b ∷ []) = c.in-More.ensures.answers u.after_login (take u.len u.buffer.items) taking in
     record {
       room = length-set u.buffer.items u.len b ∙ i.room;
       last_room = i.last_room;
       fits = omega arith;
       body_fits = i.body_fits;
-      taking = λ up. subst (HasTaken c.in-On.machine u.after_login) (sym (written u.buffer.items u.len b (omega (arith, i.room)))) on;
+      taking = λ up. subst (HasTaken c.push.new.self u.after_login) (sym (written u.buffer.items u.len b (omega (arith, i.room)))) on;
     }
 
 pub overflow_sub-self : goal.overflow_sub-self
@@ -54,17 +54,17 @@ invariant_of-self-in-Broken g c =
       taking = λ up. absurd (cc);
     }
 
-pub returns-in-On-clause-pushed : goal.returns-in-On-clause-pushed
-returns-in-On-clause-pushed g c =
+pub returns-in-More-clause-pushed : goal.returns-in-More-clause-pushed
+returns-in-More-clause-pushed g c =
     let u = c.self.inside in
     let i = c.self.invariant in
     let b = c.args.byte in
     let failed : u.failed ≡ false = ap (λ (s : UpState). s.failed) c.self.view_is ∙ c.requires in
     let taking = i.taking failed in
     let few = room_left u.buffer.items u.len u.after_login u.machine i.room i.fits taking in
-    let on : HasTaken c.in-On.machine u.after_login (take u.len u.buffer.items ++ b ∷ []) = c.in-On.ensures.answers u.after_login (take u.len u.buffer.items) taking in
+    let on : HasTaken c.push.new.self u.after_login (take u.len u.buffer.items ++ b ∷ []) = c.in-More.ensures.answers u.after_login (take u.len u.buffer.items) taking in
     subst (λ (s : UpState). PushedByte s (seen (set u.buffer.items u.len b) u.last.items (u.len + 1) u.body_len u.after_login u.failed) b More) c.self.view_is
-    (on_byte u.buffer.items u.last.items u.len u.body_len b u.after_login u.failed c.in-On.machine (omega (arith, i.room)) on)
+    (on_byte u.buffer.items u.last.items u.len u.body_len b u.after_login u.failed c.push.new.self (omega (arith, i.room)) on)
 
 pub returns-in-Login-clause-pushed : goal.returns-in-Login-clause-pushed
 returns-in-Login-clause-pushed g c =

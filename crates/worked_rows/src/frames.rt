@@ -1,0 +1,397 @@
+ghost use Rattle.std.specs.Prelude.{◌≡◌, ◌<◌, ◌≤◌, length};
+
+use arrayvec::ArrayVec;
+use avl_values::{Codec, Fault, FaultKind, Imei};
+use crc_field::crc;
+use frame_channel::{Down, DownItem, Up, UpItem, write_frame, write_login};
+use hex::decode;
+use record_codecs::{PacketHead, read_packet};
+use std::alloc::{AllocError, Global};
+use std::marker::Brand;
+use std::sync::ledger::{Blank, Ledger};
+use std::test::Fail;
+use step_count::Steps;
+
+/// Teltonika's example of Codec 8, a frame of one record.
+const CODEC_8: &str =
+    "000000000000003608010000016b40d8ea30010000000000000000000000000000000105021503010101425e0f01f10000601a014e0000000000000000010000c7cf";
+
+/// Teltonika's example of Codec 8 Extended, a frame of one record.
+const CODEC_8_EXTENDED: &str =
+    "000000000000004a8e010000016b412cee000100000000000000000000000000000000010005000100010100010011001d00010010015e2c880002000b000000003544c87a000e000000001dd7e06a00000100002994";
+
+/// Teltonika's example of Codec 16, a frame of two records.
+const CODEC_16: &str =
+    "000000000000005f10020000016bdbc7833000000000000000000000000000000000000b05040200010000030002000b00270042563a00000000016bdbc7871800000000000000000000000000000000000b05040200010000030002000b00260042563a00000200005fb3";
+
+/// Teltonika's example of a login.
+const LOGIN: &str = "000f333536333037303432343431303133";
+
+fn bytes_of(alloc: Global, text: &str) -> Option<Vec<u8>> {
+    let Ok(bytes) = decode(alloc, text.as_bytes()) else {
+        return None;
+    };
+    Some(bytes)
+}
+
+// The frame of a body that is judged whole.
+fn framed(body: &[u8]) -> Option<ArrayVec<u8, 1280>> {
+    if body.len() > 1268 {
+        return None;
+    }
+    let Ok(_head) = read_packet(body) else {
+        return None;
+    };
+    let mut out = ArrayVec::new();
+    write_frame(body, &mut out);
+    Some(out)
+}
+
+// Whether a frame is read whole, with this head, lends its body, and is written again as it was.
+fn is_example(alloc: Global, text: &str, codec: Codec, count: u8) -> bool {
+    let Some(frame) = bytes_of(alloc, text) else {
+        return false;
+    };
+    let Ok(mut up) = Up::frames(alloc) else {
+        return false;
+    };
+    let (n, item) = up.push(&frame);
+    let Some(again) = framed(up.body()) else {
+        return false;
+    };
+    n == frame.len()
+        && item == UpItem::Packet(PacketHead { codec, count })
+        && again.as_slice() == frame.as_slice()
+}
+
+#[test]
+fn example_frames(rt: HostRuntime) -> Result<(), Fail> {
+    assert!(rt; is_example(rt.alloc(), CODEC_8, Codec::C8, 1));
+    assert!(rt; is_example(rt.alloc(), CODEC_8_EXTENDED, Codec::C8E, 1));
+    assert!(rt; is_example(rt.alloc(), CODEC_16, Codec::C16, 2));
+    Ok(())
+}
+
+// What a reader answers to one piece, with how many bytes it has then.
+fn answer(up: &mut Up, piece: &[u8]) -> Option<(usize, UpItem, u32)> {
+    if up.failed() {
+        return None;
+    }
+    let (n, item) = up.push(piece);
+    Some((n, item, up.have()))
+}
+
+// A login, and a frame in two pieces of 20 bytes and the rest.
+fn login_and_frame(alloc: Global) -> Option<[(usize, UpItem, u32); 3]> {
+    let login = bytes_of(alloc, LOGIN)?;
+    let frame = bytes_of(alloc, CODEC_8)?;
+    let Ok(mut up) = Up::new(alloc) else {
+        return None;
+    };
+    if frame.len() < 20 {
+        return None;
+    }
+    let first = answer(&mut up, &login)?;
+    let second = answer(&mut up, &frame[..20])?;
+    let third = answer(&mut up, &frame[20..])?;
+    Some([first, second, third])
+}
+
+#[test]
+fn a_login_and_a_frame_in_two_pieces(rt: HostRuntime) -> Result<(), Fail> {
+    let imei = Imei::from_digits(b"356307042441013").ok_or("15 digits")?;
+    let packet = PacketHead {
+        codec: Codec::C8,
+        count: 1,
+    };
+    let answers = login_and_frame(rt.alloc()).ok_or("three answers")?;
+    assert_eq!(rt; answers[0], (17, UpItem::Login(imei), 0));
+    assert_eq!(rt; answers[1], (20, UpItem::More, 20));
+    assert_eq!(rt; answers[2], (46, UpItem::Packet(packet), 0));
+    Ok(())
+}
+
+// What comes of a stream in two pieces, cut at a place: the answer that ends it, or More, and how many bytes were taken.
+fn in_two(up: &mut Up, bytes: &[u8], cut: usize) -> (UpItem, usize)
+    requires { cut ≤ length bytes.now }
+{
+    if up.failed() {
+        return (UpItem::More, 0);
+    }
+    let (front, back) = bytes.split_at(cut);
+    let (n, item) = up.push(front);
+    if item != UpItem::More || up.failed() {
+        return (item, n);
+    }
+    let (m, item) = up.push(back);
+    (item, n + m)
+}
+
+// Whether a stream is broken with this fault at the same byte, however it is cut in two.
+fn is_broken(
+    alloc: Global,
+    after_login: bool,
+    bytes: &[u8],
+    kind: FaultKind,
+    place: u32,
+    taken: usize,
+) -> bool {
+    for cut in 0..bytes.len() + 1 {
+        let up = if after_login {
+            Up::frames(alloc)
+        } else {
+            Up::new(alloc)
+        };
+        let Ok(mut up) = up else {
+            return false;
+        };
+        if in_two(&mut up, bytes, cut) != (UpItem::Broken(Fault { kind, place }), taken) {
+            return false;
+        }
+        if !up.failed() {
+            return false;
+        }
+    }
+    true
+}
+
+// The first example with other bytes at a place.
+fn changed(alloc: Global, place: usize, bytes: &[u8]) -> Option<Vec<u8>> {
+    let mut frame = bytes_of(alloc, CODEC_8)?;
+    for (i, byte) in bytes.iter().enumerate() {
+        if place < frame.len() && i < frame.len() - place {
+            frame[place + i] = *byte;
+        }
+    }
+    Some(frame)
+}
+
+fn text_is_broken(
+    alloc: Global,
+    after_login: bool,
+    text: &str,
+    kind: FaultKind,
+    place: u32,
+    taken: usize,
+) -> bool {
+    let Some(bytes) = bytes_of(alloc, text) else {
+        return false;
+    };
+    is_broken(alloc, after_login, &bytes, kind, place, taken)
+}
+
+fn change_is_broken(
+    alloc: Global,
+    at: usize,
+    bytes: &[u8],
+    kind: FaultKind,
+    place: u32,
+    taken: usize,
+) -> bool {
+    let Some(frame) = changed(alloc, at, bytes) else {
+        return false;
+    };
+    is_broken(alloc, true, &frame, kind, place, taken)
+}
+
+#[test]
+fn first_faults_of_frames(rt: HostRuntime) -> Result<(), Fail> {
+    let rows = [
+        ("ff000000", FaultKind::Preamble, 0, 4),
+        ("0000000000000002", FaultKind::Length, 4, 8),
+        ("0000000000010000", FaultKind::Length, 4, 8),
+        ("00000000000000030c", FaultKind::UnknownCodec, 8, 9),
+        ("00000000000000030800", FaultKind::NoRecords, 9, 10),
+        ("00000000000000030801", FaultKind::Overrun, 10, 10),
+    ];
+    for (text, kind, place, taken) in rows {
+        assert!(rt; text_is_broken(rt.alloc(), true, text, kind, place, taken));
+    }
+    Ok(())
+}
+
+#[test]
+fn first_faults_of_logins(rt: HostRuntime) -> Result<(), Fail> {
+    let rows = [
+        ("0010", FaultKind::LoginLength, 0, 2),
+        (
+            "000f333536333037303432343431303141",
+            FaultKind::LoginDigit,
+            16,
+            17,
+        ),
+        ("000f2f", FaultKind::LoginDigit, 2, 3),
+    ];
+    for (text, kind, place, taken) in rows {
+        assert!(rt; text_is_broken(rt.alloc(), false, text, kind, place, taken));
+    }
+    Ok(())
+}
+
+#[test]
+fn first_faults_of_a_changed_frame(rt: HostRuntime) -> Result<(), Fail> {
+    let alloc = rt.alloc();
+    assert!(rt; change_is_broken(alloc, 65, &[0xce], FaultKind::CrcMismatch, 64, 66));
+    assert!(rt; change_is_broken(alloc, 62, &[0, 1], FaultKind::CrcHigh, 62, 64));
+    assert!(rt; change_is_broken(alloc, 35, &[4], FaultKind::TotalMismatch, 51, 52));
+    Ok(())
+}
+
+// What a reader of a stream down answers to one piece.
+fn down_answer(down: &mut Down, text: &str, alloc: Global) -> Option<(usize, DownItem)> {
+    let bytes = bytes_of(alloc, text)?;
+    if down.failed() {
+        return None;
+    }
+    Some(down.push(&bytes))
+}
+
+#[test]
+fn answers_and_counts(rt: HostRuntime) -> Result<(), Fail> {
+    let alloc = rt.alloc();
+    let mut down = Down::new();
+    assert_eq!(rt;
+        down_answer(&mut down, "0100000001", alloc),
+        Some((1, DownItem::Login(1)))
+    );
+    assert_eq!(rt;
+        down_answer(&mut down, "00000001", alloc),
+        Some((4, DownItem::Count(1)))
+    );
+    assert_eq!(rt;
+        down_answer(&mut down, "0000", alloc),
+        Some((2, DownItem::More))
+    );
+    assert_eq!(rt; down.have(), 2);
+    assert_eq!(rt;
+        down_answer(&mut down, "00ff00", alloc),
+        Some((2, DownItem::Count(255)))
+    );
+    assert!(rt; down.body().is_empty());
+    Ok(())
+}
+
+#[test]
+fn first_faults_down(rt: HostRuntime) -> Result<(), Fail> {
+    let rows = [
+        ("0000000000000002", FaultKind::Length, 4, 8),
+        ("00000000000004f5", FaultKind::Length, 4, 8),
+        ("00000000000004f40c", FaultKind::UnknownCodec, 8, 9),
+    ];
+    for (text, kind, place, taken) in rows {
+        let mut down = Down::answers();
+        let broken = DownItem::Broken(Fault { kind, place });
+        assert_eq!(rt;
+            down_answer(&mut down, text, rt.alloc()),
+            Some((taken, broken))
+        );
+        assert!(rt; down.failed());
+    }
+    Ok(())
+}
+
+// A record of Codec 8 Extended with 255 bytes: one element of 213 bytes.
+fn push_record(frame: &mut Vec<u8>, time: u8) -> Result<(), AllocError> {
+    frame.extend_from_slice(&[0; 7])?;
+    frame.push(time)?;
+    frame.extend_from_slice(&[0; 16])?;
+    frame.extend_from_slice(&[0, 0, 0, 1, 0, 0, 0, 0, 0, 0, 0, 0, 0, 1, 0, 7, 0, 213])?;
+    frame.extend_from_slice(&[0; 213])
+}
+
+// The longest body of 255 such records, in its frame.
+fn long_frame(alloc: Global) -> Result<Vec<u8>, AllocError> {
+    let mut body = Vec::new(alloc);
+    body.extend_from_slice(&[0x8e, 255])?;
+    for time in 0..255 {
+        push_record(&mut body, time)?;
+    }
+    body.push(255)?;
+    let mut frame = Vec::new(alloc);
+    frame.extend_from_slice(&[0, 0, 0, 0, 0, 0, 0xfe, 0x04])?;
+    frame.extend_from_slice(&body)?;
+    frame.extend_from_slice(&[0, 0])?;
+    frame.extend_from_slice(&crc(&body).to_be_bytes())?;
+    Ok(frame)
+}
+
+// What was told of a stream: how many bytes were taken, how many logins and packets came, and how many records.
+#[derive(Clone, Copy, Debug, PartialEq, Eq)]
+struct Told {
+    taken: u32,
+    logins: u32,
+    packets: u32,
+    records: u32,
+}
+
+// Pushes bytes one by one, each in one step.
+fn push_single<L: Ledger>(up: &mut Up, bytes: &[u8], steps: &mut Steps<L>, told: Told) -> Told {
+    let mut told = told;
+    for byte in bytes {
+        if up.failed() {
+            return told;
+        }
+        let (n, item) = up.push_counted(&[*byte], steps);
+        told.taken = told.taken.saturating_add(n as u32);
+        match item {
+            UpItem::Login(_) => told.logins = told.logins.saturating_add(1),
+            UpItem::Packet(head) => {
+                told.packets = told.packets.saturating_add(1);
+                told.records = told.records.saturating_add(head.count as u32);
+            }
+            UpItem::More | UpItem::Broken(_) => {}
+        }
+    }
+    told
+}
+
+// A login and sixteen long frames, byte by byte.
+fn long_stream<L: Ledger>(alloc: Global, blank: Blank) -> Option<Told>
+    requires name { blank.name ≡ L.name }
+    requires parts { blank.parts ≡ L.parts }
+    requires some { 0 < blank.parts }
+{
+    let login = bytes_of(alloc, LOGIN)?;
+    let Ok(frame) = long_frame(alloc) else {
+        return None;
+    };
+    let Ok(mut up) = Up::new(alloc) else {
+        return None;
+    };
+    let mut steps = Steps::<L>::new(blank);
+    let mut told = Told {
+        taken: 0,
+        logins: 0,
+        packets: 0,
+        records: 0,
+    };
+    told = push_single(&mut up, &login, &mut steps, told);
+    for _ in 0..16 {
+        told = push_single(&mut up, &frame, &mut steps, told);
+    }
+    Some(told)
+}
+
+#[test]
+fn a_million_bytes_one_by_one(rt: HostRuntime) -> Result<(), Fail> {
+    let told = long_stream::<Brand>(rt.alloc(), Blank::new(1)).ok_or("ample memory")?;
+    assert_eq!(rt;
+        told,
+        Told {
+            taken: 1_040_657,
+            logins: 1,
+            packets: 16,
+            records: 16 * 255,
+        }
+    );
+    Ok(())
+}
+
+#[test]
+fn a_written_login_is_read(rt: HostRuntime) -> Result<(), Fail> {
+    let imei = Imei::from_digits(b"356307042441013").ok_or("15 digits")?;
+    let mut up = Up::new(rt.alloc()).map_err(|_| "ample memory")?;
+    let login = write_login(imei);
+    assert_eq!(rt; answer(&mut up, &login), Some((17, UpItem::Login(imei), 0)));
+    Ok(())
+}
