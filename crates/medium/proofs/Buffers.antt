@@ -1,16 +1,12 @@
 -- A loop that sets a range of a buffer, and what it leaves.
-use Rattle.std.proofs.Common.{◌≡◌, ◌⊎◌, inl, inr, ℕ, ◌+◌, ◌-◌, ◌<◌, ◌≤◌, max, Bool, true, false, List, length, get_or, set, take, replicate, sym, ◌∙◌, ap, refl, subst, arith, length-take, length-set, get_or-set_same, get_or-set_other}
+use Rattle.std.proofs.Common.{◌≡◌, ◌⊎◌, inl, inr, ℕ, ◌+◌, ◌-◌, ◌<◌, ◌≤◌, max, Bool, true, false, List, [], length, get_or, set, take, replicate, sym, ◌∙◌, ap, refl, subst, arith, length-take, length-set, get_or-set_same, get_or-set_other}
 use Rattle.std.proofs.lemmas.List.{length-replicate, ext_get_or, get_or-take, get_or-replicate, get_or_past}
 use Rattle.std.proofs.lemmas.Bool.{cases_lt, cases_eq}
 use Rattle.medium.specs.Content.{written}
-use Rattle.medium.specs.Buffer.{Buffer, DirtyMarks, IsPadded, IsMarked}
+use Rattle.medium.specs.Buffer.{Buffer, DirtyMarks, HasMore, IsPadded, IsMarked, IsOutside, SetFrom}
+use Rattle.medium.specs.declared.spans.Span.{Span}
+use Rattle.medium.proofs.Outside.{end-later}
 use Rattle.medium.proofs.Written.{length-written, get_or-written_before, get_or-written_there, get_or-written_behind}
-
--- n elements from a place on have been set to what f gives, and nothing else has changed
-pub record SetFrom {A : Type 0} (d : A) (at n : ℕ) (f : ℕ → A) (before after : List A) : Type 0 where
-  pub size : length after ≡ length before
-  pub there : (k : ℕ) → k < n → get_or after (at + k) d ≡ f k
-  pub elsewhere : (k : ℕ) → (k < at) ⊎ (at + n ≤ k) → get_or after k d ≡ get_or before k d
 
 pub set-none : {A : Type 0} → (d : A) (at : ℕ) (f : ℕ → A) (xs : List A) → SetFrom d at 0 f xs xs
 set-none d at f xs = record { size = refl; there = λ k below. absurd (omega arith); elsewhere = λ k _. refl }
@@ -86,57 +82,52 @@ set-replicate {d = d} {at = at} n y {before = before} {after = after} so = recor
   elsewhere = λ k out. so.elsewhere k (rw length-replicate at out);
 }
 
--- A buffer that took the other's elements over a span, and differed nowhere else, is the other's.
-module _ {A : Type 0} (d : A) (first end : ℕ) (len other_len : ℕ) (mine other after : List A)
-    (padded : IsPadded d len mine) (other_padded : IsPadded d other_len other) (fits : other_len ≤ length mine)
-    (outside : (k : ℕ) → (k < first) ⊎ (end ≤ k) → get_or (take len mine) k d ≡ get_or (take other_len other) k d)
-    (so : SetFrom d first (end - first) (λ k. get_or other (first + k) d) mine after) where
-  copied : (k : ℕ) → get_or after k d ≡ get_or other k d
-  copied k = elim (place_of first (end - first) k) as (λ _. get_or after k d ≡ get_or other k d) [
-    | ahead low ↦ so.elsewhere k (inl low) ∙ sym (front d len mine k padded) ∙ outside k (inl low) ∙ front d other_len other k other_padded
-    | inside j low eq ↦ ap (λ i. get_or after i d) (sym eq) ∙ so.there j low ∙ ap (λ i. get_or other i d) eq
-    | past high ↦ so.elsewhere k (inr high) ∙ sym (front d len mine k padded) ∙ outside k (elim (cases_lt k first) as (λ _. (k < first) ⊎ (end ≤ k)) [
-      | inl low ↦ inl low
-      | inr from ↦ inr (omega arith)
-    ]) ∙ front d other_len other k other_padded
-  ]
-
+-- A buffer that took the other's elements is the other's.
+module _ {A : Type 0} (d : A) (other_len : ℕ) (mine other after : List A)
+    (size : length after ≡ length mine) (other_padded : IsPadded d other_len other) (fits : other_len ≤ length mine)
+    (copied : (k : ℕ) → get_or after k d ≡ get_or other k d) where
   pub padded-copied : IsPadded d other_len after
-  padded-copied = record { within = let size = so.size in omega arith; behind = λ k above. copied k ∙ other_padded.behind k above }
+  padded-copied = record { within = omega arith; behind = λ k above. copied k ∙ other_padded.behind k above }
 
   pub take-copied : take other_len after ≡ take other_len other
   take-copied =
-      let size = so.size in
       ext_get_or d (take other_len after) (take other_len other)
       (omega (arith, length-take other_len after, length-take other_len other, other_padded.within))
       (λ k _. front d other_len after k padded-copied ∙ copied k ∙ sym (front d other_len other k other_padded))
 
 -- what contracts see of the marks
-pub seen-marked : (at n : ℕ) (first end new_first new_end : ℕ) (earlier after : List Bool) (was : DirtyMarks)
-    → IsMarked first end earlier → at + n ≤ was.room → SetFrom false at n (λ _. true) earlier after
+pub seen-marked : (at n : ℕ) (end new_end : ℕ) (earlier after : List Bool) (was : DirtyMarks)
+    → IsPadded false end earlier → at + n ≤ was.room → SetFrom false at n (λ _. true) earlier after
     → new_end ≡ max end (at + n) → record { marks = take end earlier; room = length earlier } ≡ was
     → record { marks = take new_end after; room = length after } ≡ record was { marks = written false at (replicate n true) was.marks }
-seen-marked at n first end new_first new_end earlier after was marked fits so is view =
+seen-marked at n end new_end earlier after was padded fits so is view =
     let was_marks = ap (λ (v : DirtyMarks). v.marks) view in
     let was_room = ap (λ (v : DirtyMarks). v.room) view in
     let count : length (replicate n true) ≡ n = length-replicate n true in
-    let marks = take-put false at (replicate n true) end earlier after marked.padded (omega arith) (set-replicate n true so) new_end (omega arith) in
+    let marks = take-put false at (replicate n true) end earlier after padded (omega arith) (set-replicate n true so) new_end (omega arith) in
     let size = so.size in
     cc
 
--- no mark is left where the span was cleared
-pub marks-cleared : (first end none : ℕ) (earlier after : List Bool)
-    → IsMarked first end earlier → SetFrom false first (end - first) (λ _. false) earlier after → IsMarked none 0 after
-marks-cleared first end none earlier after marked so =
-    let all = λ (k : ℕ). elim (place_of first (end - first) k) as (λ _. get_or after k false ≡ false) [
-      | ahead low ↦ so.elsewhere k (inl low) ∙ marked.clean k low
-      | inside j low eq ↦ ap (λ i. get_or after i false) (sym eq) ∙ so.there j low
-      | past high ↦ so.elsewhere k (inr high) ∙ elim (cases_lt k first) as (λ _. get_or earlier k false ≡ false) [
-        | inl low ↦ marked.clean k low
-        | inr from ↦ marked.padded.behind k (omega arith)
-      ]
-    ] in
-    record { padded = record { within = omega arith; behind = λ k _. all k }; clean = λ k _. all k }
+-- the marks of a range stand in the spans with the range added
+pub marked-more : (at n : ℕ) (end new_end : ℕ) (span : Span) (spans more : List Span) (earlier after : List Bool)
+    → IsMarked spans end earlier → at + n ≤ length earlier → SetFrom false at n (λ _. true) earlier after → new_end ≡ max end (at + n)
+    → HasMore span spans more → span.first ≡ at → span.end ≡ at + n → IsMarked more new_end after
+marked-more at n end new_end span spans more earlier after marked fits so is has first last = record {
+  padded = record {
+    within = let size = so.size in let within = marked.padded.within in omega arith;
+    behind = λ k above. so.elsewhere k (inr (omega arith)) ∙ marked.padded.behind k (omega arith);
+  };
+  ends = has.ends new_end (omega arith) (end-later end new_end spans (omega arith) marked.ends);
+  clean = λ k out. so.elsewhere k (elim (has.has k out) as (λ _. (k < at) ⊎ (at + n ≤ k)) [ inl low ↦ inl (omega arith) | inr high ↦ inr (omega arith) ]) ∙ marked.clean k (has.covers k out);
+}
+
+-- no mark is left
+pub marks-cleared : (after : List Bool) → ((k : ℕ) → get_or after k false ≡ false) → IsMarked [] 0 after
+marks-cleared after all = record {
+  padded = record { within = omega arith; behind = λ k _. all k };
+  ends = record { each = λ i d low. absurd (omega arith) };
+  clean = λ k _. all k;
+}
 
 -- what contracts see of a buffer
 abbrev seen : ℕ → List ℕ → Buffer
@@ -154,18 +145,22 @@ seen-put at n ys len end before after was padded fits all so is view =
     let size = so.size in
     cc
 
-pub seen-copied : (first end len other_len : ℕ) (mine other after : List ℕ) (was it : Buffer)
+pub seen-outside : (len other_len : ℕ) (mine other : List ℕ) (was it : Buffer) (spans : List Span)
     → IsPadded 0 len mine → IsPadded 0 other_len other → seen len mine ≡ was → seen other_len other ≡ it
-    → length it.bytes ≤ was.room
-    → ((k : ℕ) → (k < first) ⊎ (end ≤ k) → get_or was.bytes k 0 ≡ get_or it.bytes k 0)
-    → SetFrom 0 first (end - first) (λ k. get_or other (first + k) 0) mine after
+    → ((k : ℕ) → IsOutside spans k → get_or was.bytes k 0 ≡ get_or it.bytes k 0)
+    → (k : ℕ) → IsOutside spans k → get_or mine k 0 ≡ get_or other k 0
+seen-outside len other_len mine other was it spans padded other_padded view other_view outside k out =
+    let was_bytes = ap (λ (v : Buffer). get_or v.bytes k 0) view in
+    let it_bytes = ap (λ (v : Buffer). get_or v.bytes k 0) other_view in
+    sym (front 0 len mine k padded) ∙ was_bytes ∙ outside k out ∙ sym it_bytes ∙ front 0 other_len other k other_padded
+
+pub seen-copied : (other_len : ℕ) (len : ℕ) (mine other after : List ℕ) (was it : Buffer)
+    → IsPadded 0 other_len other → seen len mine ≡ was → seen other_len other ≡ it
+    → length it.bytes ≤ was.room → length after ≡ length mine → ((k : ℕ) → get_or after k 0 ≡ get_or other k 0)
     → IsPadded 0 other_len after × (seen other_len after ≡ record was { bytes = it.bytes })
-seen-copied first end len other_len mine other after was it padded other_padded view other_view fits outside so =
-    let was_bytes = ap (λ (v : Buffer). v.bytes) view in
+seen-copied other_len len mine other after was it other_padded view other_view fits size copied =
     let was_room = ap (λ (v : Buffer). v.room) view in
     let it_bytes = ap (λ (v : Buffer). v.bytes) other_view in
     let other_fits : other_len ≤ length mine = omega (arith, ap length it_bytes, length-take other_len other, other_padded.within) in
-    let apart = λ (k : ℕ) (out : (k < first) ⊎ (end ≤ k)). ap (λ (b : List ℕ). get_or b k 0) was_bytes ∙ outside k out ∙ sym (ap (λ (b : List ℕ). get_or b k 0) it_bytes) in
-    let bytes = take-copied 0 first end len other_len mine other after padded other_padded other_fits apart so in
-    let size = so.size in
-    (padded-copied 0 first end len other_len mine other after padded other_padded other_fits apart so, cc)
+    let bytes = take-copied 0 other_len mine other after size other_padded other_fits copied in
+    (padded-copied 0 other_len mine other after size other_padded other_fits copied, cc)

@@ -1,6 +1,8 @@
 -- How the media in memory keep their bytes: buffers that are long enough for each write that is allowed, and the filler
 -- behind the end.
-use Rattle.std.specs.Prelude.{◌≡◌, ℕ, ◌<◌, ◌≤◌, ◌^◌, max, Bool, false, List, length, get_or}
+use Rattle.std.specs.Prelude.{◌≡◌, ◌⊎◌, ℕ, ◌+◌, ◌<◌, ◌≤◌, ◌^◌, max, Bool, false, List, [], ◌∷◌, length, get_or}
+use Rattle.std.specs.List.{All}
+use Rattle.medium.specs.declared.spans.Span.{Span}
 use Rattle.medium.specs.Content.{Content}
 
 -- bytes from place 0 on, and the place up to which there is room
@@ -29,10 +31,32 @@ pub record IsTornImage (c : Content) (image : List ℕ) : Type 0 where
   pub no_longer : length image ≤ max (length c.durable) (length c.dirty)
   pub clean : (k : ℕ) → get_or c.dirty k false ≡ false → get_or image k 0 ≡ get_or c.durable k 0
 
--- no mark stands before the first place, or behind the end
-pub record IsMarked (first end : ℕ) (marks : List Bool) : Type 0 where
+-- this place is in none of these spans
+abbrev pub IsOutside : List Span → ℕ → Type 0
+IsOutside [] k = Unit {0}
+IsOutside (s ∷ spans) k = ((k < s.first) ⊎ (s.end ≤ k)) × IsOutside spans k
+
+-- each of these spans ends by this place
+pub record EndBy (end : ℕ) (spans : List Span) : Type 0 where
+  pub each : All (λ (s : Span). s.end ≤ end) spans
+
+-- these spans with one more: a place outside of them is outside of those before and of that one
+pub record HasMore (span : Span) (old new : List Span) : Type 0 where
+  pub covers : (k : ℕ) → IsOutside new k → IsOutside old k
+  pub has : (k : ℕ) → IsOutside new k → (k < span.first) ⊎ (span.end ≤ k)
+  pub ends : (end : ℕ) → span.end ≤ end → EndBy end old → EndBy end new
+
+-- n elements from a place on have been set to what f gives, and nothing else has changed
+pub record SetFrom {A : Type 0} (d : A) (at n : ℕ) (f : ℕ → A) (before after : List A) : Type 0 where
+  pub size : length after ≡ length before
+  pub there : (k : ℕ) → k < n → get_or after (at + k) d ≡ f k
+  pub elsewhere : (k : ℕ) → (k < at) ⊎ (at + n ≤ k) → get_or after k d ≡ get_or before k d
+
+-- no mark stands outside of these spans, or behind the end
+pub record IsMarked (spans : List Span) (end : ℕ) (marks : List Bool) : Type 0 where
   pub padded : IsPadded false end marks
-  pub clean : (k : ℕ) → k < first → get_or marks k false ≡ false
+  pub ends : EndBy end spans
+  pub clean : (k : ℕ) → IsOutside spans k → get_or marks k false ≡ false
 
 abbrev pub content_of : Buffer → Buffer → DirtyMarks → Content
 content_of reads durable dirty = record { reads = reads.bytes; durable = durable.bytes; dirty = dirty.marks }

@@ -1,15 +1,18 @@
 ghost use Rattle.std.specs.Prelude.{◌≡◌, ◌+◌, ◌<◌, ◌≤◌, ℕ, true, false, [], length, get_or, replicate, OnOk};
+ghost use Rattle.medium.specs.Buffer.{EndBy, IsOutside};
 ghost use Rattle.medium.specs.Content.{written};
 
+use crate::spans::{Span, Spans, add, unmark};
+use arrayvec::ArrayVec;
 use avl_values::NoMemory;
 use std::alloc::Global;
 use std::marker::Model;
 
-/// Which bytes were written since the last sync, and the span from the first of them to the last.
+/// Which bytes were written since the last sync, and the spans in which they stand.
 #[derive(Drop)]
 pub struct DirtyMap {
     marks: Vec<bool>,
-    first: usize,
+    spans: Spans,
     end: usize,
 }
 
@@ -21,7 +24,7 @@ impl Model for DirtyMap {
 
     ghost view = { λ d. record { marks = take d.end d.marks.items; room = length d.marks.items } };
 
-    ghost invariant = { λ d. IsMarked d.first d.end d.marks.items };
+    ghost invariant = { λ d. IsMarked d.spans.items d.end d.marks.items };
 }
 
 impl DirtyMap {
@@ -31,7 +34,7 @@ impl DirtyMap {
     {
         DirtyMap {
             marks: Vec::new(alloc),
-            first: usize::MAX,
+            spans: ArrayVec::new(),
             end: 0,
         }
     }
@@ -43,24 +46,18 @@ impl DirtyMap {
         ensures enough { OnOk result (to ≤ self.new.room) }
     {
         if to > self.marks.len() {
-            self.marks.reserve_exact(to - self.marks.len())?;
+            self.marks.reserve(to - self.marks.len())?;
             self.marks.resize(to, false)?;
         }
         Ok(())
     }
 
-    /// No byte before this place is dirty.
-    pub fn first(&self) -> usize
-        ensures { (k : ℕ) → k < result → get_or self.now.marks k false ≡ false }
+    /// No byte outside of these spans is dirty.
+    pub fn spans(&self) -> &[Span]
+        ensures clean { (k : ℕ) → IsOutside result.now k → get_or self.now.marks k false ≡ false }
+        ensures ends { EndBy (length self.now.marks) result.now }
     {
-        self.first
-    }
-
-    /// The greatest end written.
-    pub fn end(&self) -> usize
-        ensures { result ≡ length self.now.marks }
-    {
-        self.end
+        self.spans.as_slice()
     }
 
     /// These bytes are dirty now.
@@ -71,7 +68,13 @@ impl DirtyMap {
         for i in 0..count {
             self.marks[at + i] = true;
         }
-        self.first = self.first.min(at);
+        add(
+            &mut self.spans,
+            Span {
+                first: at,
+                end: at + count,
+            },
+        );
         self.end = self.end.max(at + count);
     }
 
@@ -79,10 +82,8 @@ impl DirtyMap {
     pub fn clear(&mut self)
         ensures { self.new ≡ record self.old { marks = [] } }
     {
-        for k in self.first..self.end {
-            self.marks[k] = false;
-        }
-        self.first = usize::MAX;
+        unmark(self.marks.as_mut_slice(), self.spans.as_slice());
+        self.spans.clear();
         self.end = 0;
     }
 }

@@ -1,6 +1,8 @@
 ghost use Rattle.std.specs.Prelude.{◌≡◌, ◌⊎◌, ◌+◌, ◌-◌, ◌<◌, ◌≤◌, min, ℕ, [], length, get_or, replicate, take, drop, OnOk};
+ghost use Rattle.medium.specs.Buffer.{EndBy, IsOutside};
 ghost use Rattle.medium.specs.Content.{written};
 
+use crate::spans::{Span, copy_spans};
 use avl_values::NoMemory;
 use std::alloc::Global;
 use std::marker::Model;
@@ -49,7 +51,7 @@ impl Image {
         ensures enough { OnOk result (to ≤ self.new.room) }
     {
         if to > self.bytes.len() {
-            self.bytes.reserve_exact(to - self.bytes.len())?;
+            self.bytes.reserve(to - self.bytes.len())?;
             self.bytes.resize(to, 0)?;
         }
         Ok(())
@@ -108,17 +110,15 @@ impl Image {
         self.len = self.len.max(at + count);
     }
 
-    /// Becomes the other, from which it differs only in this span.
-    pub fn copy_span(&mut self, other: &Image, first: usize, end: usize)
+    /// Becomes the other, from which it differs only in these spans.
+    pub fn copy_from(&mut self, other: &Image, spans: &[Span])
         requires room { length other.now.bytes ≤ self.old.room }
-        requires span { end ≤ self.old.room }
-        requires other_span { end ≤ other.now.room }
-        requires outside { (k : ℕ) → (k < first) ⊎ (end ≤ k) → get_or self.old.bytes k 0 ≡ get_or other.now.bytes k 0 }
+        requires fits { EndBy self.old.room spans.now }
+        requires there { EndBy other.now.room spans.now }
+        requires outside { (k : ℕ) → IsOutside spans.now k → get_or self.old.bytes k 0 ≡ get_or other.now.bytes k 0 }
         ensures { self.new ≡ record self.old { bytes = other.now.bytes } }
     {
-        for k in first..end {
-            self.bytes[k] = other.bytes[k];
-        }
+        copy_spans(self.bytes.as_mut_slice(), other.bytes.as_slice(), spans);
         self.len = other.len;
     }
 }

@@ -11,6 +11,7 @@ mod memory_bench;
 mod memory_content;
 mod memory_medium;
 mod power;
+mod spans;
 mod torn_images;
 
 pub use bench::{Bench, Tear};

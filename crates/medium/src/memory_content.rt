@@ -125,14 +125,12 @@ impl MemoryContent {
         self.dirty.mark(at as usize, count);
     }
 
-    /// What a read gives is durable now. It costs the span that was written since the last call.
+    /// What a read gives is durable now. It costs what was written since the last call, in up to 256 places.
     pub fn sync(&mut self)
         ensures content { self.new ≡ record self.old { content = after_sync self.old.content } }
         ensures was { IsImage self.old.content self.old.content.reads }
     {
-        let first = self.dirty.first();
-        let end = self.dirty.end();
-        self.durable.copy_span(&self.reads, first, end);
+        self.durable.copy_from(&self.reads, self.dirty.spans());
         self.dirty.clear();
     }
 
@@ -141,9 +139,7 @@ impl MemoryContent {
         ensures content { self.new ≡ record self.old { content = record self.old.content { reads = self.old.content.durable } } }
         ensures was { IsImage self.old.content self.old.content.durable }
     {
-        let first = self.dirty.first();
-        let end = self.dirty.end();
-        self.reads.copy_span(&self.durable, first, end);
+        self.reads.copy_from(&self.durable, self.dirty.spans());
     }
 
     /// A read gives what it gave, and that is an image.
@@ -160,9 +156,7 @@ impl MemoryContent {
         ensures content { self.new ≡ record self.old { content = record self.old.content { reads = image.now.bytes } } }
         ensures was { IsImage self.old.content image.now.bytes }
     {
-        let first = self.dirty.first();
-        let end = self.dirty.end();
-        self.reads.copy_span(image, first, end);
+        self.reads.copy_from(image, self.dirty.spans());
     }
 
     /// Gives an image what a read gives.
@@ -171,6 +165,6 @@ impl MemoryContent {
         requires room { self.now.ready ≤ image.old.room }
         ensures { image.new ≡ record image.old { bytes = self.now.content.reads } }
     {
-        image.copy_span(&self.reads, self.dirty.first(), self.dirty.end());
+        image.copy_from(&self.reads, self.dirty.spans());
     }
 }

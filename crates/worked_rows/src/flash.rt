@@ -166,6 +166,67 @@ fn each_call_fails_in_turn(rt: HostRuntime) -> Result<(), Fail> {
     Ok(())
 }
 
+// Two slots that hold a record each, over a medium of which the call of this number fails: four open the ring, and four
+// store each record.
+fn two_held(alloc: Global, call: u64) -> Option<Ring<MemoryMedium>> {
+    let Ok(bytes) = vec![in alloc; 0u8; 544] else {
+        return None;
+    };
+    let Ok(medium) = MemoryMedium::new(alloc, &bytes, &[call]) else {
+        return None;
+    };
+    let Ok(mut ring) = Ring::open(alloc, medium, 2) else {
+        return None;
+    };
+    for _ in 0..2 {
+        if store(&mut ring).is_some() {
+            return None;
+        }
+    }
+    Some(ring)
+}
+
+// Whether the records that are held were released.
+fn releases(ring: &mut Ring<MemoryMedium>) -> bool {
+    if ring.is_down() {
+        return false;
+    }
+    let batch = ring.select(Order::Oldest, 90);
+    !batch.is_empty() && ring.release(batch.as_slice()).is_ok()
+}
+
+// Releases two records over a medium of which one call fails, and, where that was in the release, once more when the ring was
+// opened again: how it went, and how many were held between.
+fn failing_release(alloc: Global, call: u64) -> (&'static str, u16) {
+    let Some(mut ring) = two_held(alloc, call) else {
+        return ("not stored", 0);
+    };
+    if releases(&mut ring) {
+        return ("released", 0);
+    }
+    if !ring.is_down() {
+        return ("up", 0);
+    }
+    let Ok(()) = ring.reopen() else {
+        return ("not opened", 0);
+    };
+    let held = ring.held();
+    if held > 0 && !releases(&mut ring) {
+        return ("not released", held);
+    }
+    ("failed", held)
+}
+
+#[test]
+fn each_call_of_a_release_fails_in_turn(rt: HostRuntime) -> Result<(), Fail> {
+    assert_eq!(rt; failing_release(rt.alloc(), 11), ("not stored", 0));
+    for (call, held) in [(12, 2), (13, 1), (14, 0)] {
+        assert_eq!(rt; failing_release(rt.alloc(), call), ("failed", held));
+    }
+    assert_eq!(rt; failing_release(rt.alloc(), 15), ("released", 0));
+    Ok(())
+}
+
 // A ring of three slots, all of them open.
 fn filled(alloc: Global) -> Option<Ring<MemoryBench>> {
     let mut ring = formatted(alloc, 3)?;

@@ -1,7 +1,8 @@
 -- The range was set to the byte, so the buffer's front is the old one with it written.
 use Rattle.std.proofs.Common.{◌≡◌, ℕ, length, arith, replicate, refl, subst}
 use Rattle.std.proofs.lemmas.List.{length-replicate}
-use Rattle.medium.proofs.Buffers.{SetFrom, seen-put, set-replicate}
+use Rattle.medium.specs.Buffer.{SetFrom}
+use Rattle.medium.proofs.Buffers.{seen-put, set-replicate}
 use Rattle.medium.proofs.image.Image.fill.Goals as goal
 
 pub returns : goal.returns

@@ -1,5 +1,5 @@
 use Rattle.std.proofs.Common.{◌≡◌}
-use Rattle.medium.proofs.Buffers.{SetFrom}
+use Rattle.medium.specs.Buffer.{SetFrom}
 use Rattle.medium.proofs.image.Image.fill.Given as goal
 
 abbrev pub invariant-loop-i : goal.invariant-loop-i

@@ -1,5 +1,5 @@
 use Rattle.std.proofs.Common.{◌≡◌, get_or}
-use Rattle.medium.proofs.Buffers.{SetFrom}
+use Rattle.medium.specs.Buffer.{SetFrom}
 use Rattle.medium.proofs.image.Image.put.Given as goal
 
 abbrev pub invariant-loop-i : goal.invariant-loop-i

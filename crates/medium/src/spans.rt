@@ -1,0 +1,90 @@
+ghost use Rattle.std.specs.Prelude.{◌≡◌, ◌+◌, ◌-◌, ◌<◌, ◌≤◌, ℕ, false, length, get_or, IsTrue};
+ghost use Rattle.medium.specs.Buffer.{EndBy, HasMore, IsOutside, SetFrom};
+
+use arrayvec::ArrayVec;
+
+/// The places from the first one on, before the end.
+#[derive(Clone, Copy, Debug, Default, PartialEq, Eq)]
+pub struct Span {
+    pub first: usize,
+    pub end: usize,
+}
+
+/// As many spans as are told apart: a whole batch of gates. The last one takes in what comes then.
+pub type Spans = ArrayVec<Span, 256>;
+
+// Whether the last of these spans ends at this place.
+fn ends_at(spans: &[Span], place: usize) -> bool
+    ensures { IsTrue result → 0 < length spans.now }
+{
+    spans.len() > 0 && spans[spans.len() - 1].end == place
+}
+
+// Makes the last span wider.
+fn widen(spans: &mut Spans, span: Span)
+    requires { 0 < length spans.old.items }
+    ensures { HasMore span spans.old.items spans.new.items }
+{
+    let _most = spans.len();
+    if let Some(last) = spans.pop() {
+        spans.push(Span {
+            first: last.first.min(span.first),
+            end: last.end.max(span.end),
+        });
+    }
+}
+
+/// Adds a span. One that begins where the last one ends makes that longer.
+pub fn add(spans: &mut Spans, span: Span)
+    ensures { HasMore span spans.old.items spans.new.items }
+{
+    if spans.is_full() || ends_at(spans.as_slice(), span.first) {
+        widen(spans, span);
+        return;
+    }
+    spans.push(span);
+}
+
+fn copy_span(into: &mut [u8], from: &[u8], first: usize, end: usize)
+    requires fits { end ≤ length into.old }
+    requires there { end ≤ length from.now }
+    ensures { SetFrom 0 first (end - first) (λ k. get_or from.now (first + k) 0) into.old into.new }
+{
+    for k in first..end {
+        into[k] = from[k];
+    }
+}
+
+fn unmark_span(marks: &mut [bool], first: usize, end: usize)
+    requires fits { end ≤ length marks.old }
+    ensures { SetFrom false first (end - first) (λ _. false) marks.old marks.new }
+{
+    for k in first..end {
+        marks[k] = false;
+    }
+}
+
+/// Makes the first bytes the others, from which they differ only in these spans.
+pub fn copy_spans(into: &mut [u8], from: &[u8], spans: &[Span])
+    requires fits { EndBy (length into.old) spans.now }
+    requires there { EndBy (length from.now) spans.now }
+    requires outside { (k : ℕ) → IsOutside spans.now k → get_or into.old k 0 ≡ get_or from.now k 0 }
+    ensures size { length into.new ≡ length into.old }
+    ensures same { (k : ℕ) → get_or into.new k 0 ≡ get_or from.now k 0 }
+{
+    for i in 0..spans.len() {
+        copy_span(into, from, spans[i].first, spans[i].end);
+    }
+}
+
+/// Takes all marks away, which stand only in these spans.
+pub fn unmark(marks: &mut [bool], spans: &[Span])
+    requires fits { EndBy (length marks.old) spans.now }
+    requires outside { (k : ℕ) → IsOutside spans.now k → get_or marks.old k false ≡ false }
+    ensures size { length marks.new ≡ length marks.old }
+    ensures none { (k : ℕ) → get_or marks.new k false ≡ false }
+{
+    for i in 0..spans.len() {
+        unmark_span(marks, spans[i].first, spans[i].end);
+    }
+}
