@@ -2,7 +2,7 @@ use arrayvec::ArrayVec;
 use avl_values::Gps;
 
 /// What a vehicle's sensors say at one moment.
-#[derive(Drop)]
+#[derive(Debug, Drop)]
 pub struct Fix {
     /// Milliseconds since 1970 UTC. Times may go backwards.
     pub time: u64,

@@ -46,7 +46,7 @@ pub struct IoSetting {
     pub low: u64,
     /// The greatest value in range.
     pub high: u64,
-    /// The priority of a record that it makes.
+    /// The priority of a record that it makes (Teltonika, Data Sending Protocols: 0 low, 1 high, 2 panic).
     pub priority: u8,
 }
 

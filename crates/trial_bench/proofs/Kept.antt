@@ -1,6 +1,7 @@
 -- The outcome of a script that is built keeps what every trial keeps.
 use Rattle.std.proofs.Common.{◌≡◌, ◌==◌, ◌≤◌, ℕ, true, List, [], ◌∷◌, length, Option, Some, None, Result, Ok, Err, IfOk, refl, sym, ap, ◌∙◌, subst, inl, inr, arith}
 use Rattle.std.proofs.lemmas.Bool.{eq-eqb}
+use Rattle.acquisition.specs.Watching.{powered_up}
 use Rattle.avl_values.specs.Record.{Record}
 use Rattle.trial_model.specs.Acquired.{IsAcquired}
 use Rattle.trial_model.specs.Answers.{HasAnswers}
@@ -155,7 +156,7 @@ kept_stored : (s : PlainScript) → s.round ≡ None → Kept (plain_script_of s
 kept_stored s none =
     let all = first_places (made_by s) in
     let d : DeviceOutcome = record { imei = s.imei; acquired = all; cut = []; overwritten = []; flash = all; archived = [] } in
-    let fits : length (made_by s) ≤ s.slots = omega (arith, made_few s.period None s.fixes.items, s.room) in
+    let fits : length (made_by s) ≤ s.slots = omega (arith, made_few s.period powered_up s.fixes.items, s.room) in
     kept_with s d [] (record {
       imei = refl;
       acquired = refl;
@@ -227,7 +228,7 @@ kept_sent s r (x ∷ xs) e made plain few =
 
 kept_round : (s : PlainScript) (round : Option NumberedRound) → s.round ≡ round → ArePlain (made_by s) → Kept (plain_script_of s) (outcome_by s.imei (made_by s) round)
 kept_round s None e plain = kept_stored s e
-kept_round s (Some r) e plain = kept_sent s r (made_by s) e refl plain (omega (arith, made_few s.period None s.fixes.items, s.few))
+kept_round s (Some r) e plain = kept_sent s r (made_by s) e refl plain (omega (arith, made_few s.period powered_up s.fixes.items, s.few))
 
 pub kept : (s : PlainScript) → ArePlain (made_by s) → Kept (plain_script_of s) (outcome_of s)
 kept s plain = kept_round s s.round refl plain

@@ -14,7 +14,6 @@ pub mod Once
 pub mod Plays
 pub mod Reading
 pub mod Records
-pub mod Spelled
 pub mod Splits
 pub mod Streams
 pub mod Talks

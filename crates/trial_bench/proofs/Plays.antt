@@ -1,17 +1,15 @@
 -- What a script that is built decides for its device.
-use Rattle.std.proofs.Common.{◌≡◌, ◌==◌, ◌+◌, ℕ, Bool, true, false, List, [], ◌∷◌, ◌++◌, map, fold, Option, Some, None, option_map, if◌then◌else◌, refl, sym, ap, ◌∙◌, subst, append_assoc}
+use Rattle.std.proofs.Common.{◌≡◌, ◌==◌, ◌+◌, ℕ, Bool, true, false, List, [], ◌∷◌, ◌++◌, map, fold, Option, Some, None, if◌then◌else◌, refl, sym, ap, ◌∙◌, subst, append_assoc}
 use Rattle.std.specs.List.{AllZip, filter_map}
 use Rattle.std.proofs.lemmas.Bool.{eq-eqb, false≢true}
 use Rattle.std.proofs.lemmas.List.{append-nil, map_push}
+use Rattle.acquisition.specs.Deciding.{decided}
+use Rattle.acquisition.specs.Watching.{Watching, powered_up}
+use Rattle.acquisition.specs.declared.fix.Fix.{Fix}
 use Rattle.avl_values.specs.Record.{Record}
-use Rattle.avl_values.specs.declared.codec.Codec.{Codec}
 use Rattle.avl_values.specs.declared.codec.Codec.TheVariants.{C8}
-use Rattle.trial_bench.specs.PlainFrame.{plain_record}
-use Rattle.trial_model.specs.Acquisition.{Decided, Watching, bytes_of, decided, is_due, powered_up}
-use Rattle.trial_model.specs.Decisions.{Decision, DeviceHistory, after_connection, after_fix, after_step, before_all, history_of, progress_of, records_decided, steps_of, store_cost}
-use Rattle.trial_model.specs.Load.{one_more}
-use Rattle.trial_model.specs.Script.{Device, device_on, devices_of, lines_of, opening_of, setting_on}
-use Rattle.trial_model.specs.declared.fix.Fix.{Fix}
+use Rattle.trial_model.specs.Decisions.{Decision, DeviceHistory, LineProgress, after_connection, after_fix, after_step, before_all, decide_one, history_of, progress_of, records_decided, steps_of, store_cost}
+use Rattle.trial_model.specs.Script.{Device, device_on, devices_of, lines_of, opening_of, setting_on, settings_of}
 use Rattle.trial_model.specs.declared.order.Order.TheVariants.{Oldest}
 use Rattle.trial_model.specs.declared.outcome.DeviceEnd.{DeviceEnd}
 use Rattle.trial_model.specs.declared.outcome.DeviceOutcome.{DeviceOutcome}
@@ -19,7 +17,6 @@ use Rattle.trial_model.specs.declared.script.ScriptLine.{ScriptLine}
 use Rattle.trial_model.specs.declared.script.ScriptLine.TheVariants as Line
 use Rattle.trial_bench.specs.PlainOutcome.{made_by, made_from}
 use Rattle.trial_bench.specs.ReadScript.{fix_part, plain_script_of, round_part}
-use Rattle.trial_bench.specs.Tracker.{due_by}
 use Rattle.trial_bench.specs.declared.plain_script.NumberedFix.{NumberedFix}
 use Rattle.trial_bench.specs.declared.plain_script.NumberedRound.{NumberedRound}
 use Rattle.trial_bench.specs.declared.plain_script.PlainScript.{PlainScript}
@@ -90,10 +87,6 @@ pub chosen : {A : Type 0} (b : Bool) (x y : A) → b ≡ true → (if b then x e
 chosen true x y e = refl
 chosen false x y e = absurd (false≢true e)
 
-other : {A : Type 0} (b : Bool) (x y : A) → b ≡ false → (if b then x else y) ≡ y
-other true x y e = absurd (false≢true (sym e))
-other false x y e = refl
-
 own_fix : (device : Device) (h : DeviceHistory) (imei : ℕ) (fix : Fix) → imei ≡ device.imei → after_step device h (record { line = Line.Fix imei fix; end = None }) ≡ after_fix device h fix
 own_fix device h imei fix is = chosen (imei == device.imei) (after_fix device h fix) h (eq-eqb imei device.imei is)
 
@@ -134,64 +127,32 @@ history_is s ends =
     rw step (ap (λ h. h.decisions) (fixes_history (plain_device s) before_all s.imei s.fixes.items s.round ends refl)
     ∙ round_decides (plain_device s) (after_fixes (plain_device s) before_all s.fixes.items) s.imei s.round ends)
 
--- what the fixes decide is what they make
-abbrev pub time_of : Option Fix → Option ℕ
-time_of last = option_map (λ f. f.time) last
+-- a line decides its records
+line_decides : (slots : ℕ) (cover : Option ℕ) (p : LineProgress) (rs : List Record) → records_decided (fold (decide_one slots cover) p rs).decisions ≡ records_decided p.decisions ++ rs
+line_decides slots cover p [] = sym (append-nil (records_decided p.decisions))
+line_decides slots cover p (r ∷ rs) =
+    let d : Decision = record { rec = r; number = p.number; load = p.load; cover = cover; cost = p.cost + store_cost slots p.load } in
+    line_decides slots cover (decide_one slots cover p r) rs
+    ∙ (ap (λ xs. xs ++ rs) (map_push (λ (d : Decision). d.rec) p.decisions d) ∙ append_assoc (records_decided p.decisions) (r ∷ []) rs)
 
-due_is : (period : ℕ) (last : Option Fix) (fix : Fix) → due_by period (time_of last) fix.time ≡ is_due period last fix
-due_is period None fix = refl
-due_is period (Some f) fix = refl
-
+-- and so the fixes decide what they make
 abbrev pub history_with : List Decision → Watching → ℕ → DeviceHistory
 history_with ds w load = record { decisions = ds; watching = w; fuse = None; load = load }
 
--- the history by what a fix decides
-unfoldable pub history_by_decided : Device → List Decision → ℕ → Decided → DeviceHistory
-history_by_decided device ds load x = record {
-  decisions = (progress_of device.slots None ds load x.records).decisions;
-  watching = x.watching;
-  fuse = None;
-  load = (progress_of device.slots None ds load x.records).load;
-}
-
-decides_one : (device : Device) (ds : List Decision) (w : Watching) (load : ℕ) (f : NumberedFix) (fs : List NumberedFix) (due : Bool) → is_due device.period w.last f.fix ≡ due → device.codec ≡ C8
-    → ((ds : List Decision) (w : Watching) (load : ℕ) → records_decided (after_fixes device (history_with ds w load) fs).decisions ≡ records_decided ds ++ made_from device.period (time_of w.last) fs)
-    → records_decided (after_fixes device (history_with ds w load) (f ∷ fs)).decisions ≡ records_decided ds ++ made_from device.period (time_of w.last) (f ∷ fs)
-unfolding made_from history_by_decided
-decides_one device ds w load f fs true e c more =
-    let due = due_is device.period w.last f.fix ∙ e in
-    let yes : Decided = record { records = record { codec = device.codec; bytes = bytes_of f.fix } ∷ []; watching = record { last = Some f.fix; watched = f.fix.values.items } } in
-    let no : Decided = record { records = []; watching = record { last = w.last; watched = f.fix.values.items } } in
-    let is : decided device w f.fix ≡ yes = chosen (is_due device.period w.last f.fix) yes no e in
-    let new : Decision = record { rec = record { codec = device.codec; bytes = bytes_of f.fix }; number = 0; load = load; cover = None; cost = 0 + store_cost device.slots load } in
-    let rest = made_from device.period (Some f.fix.time) fs in
-    let same : new.rec ≡ plain_record (bytes_of f.fix) = ap (λ (x : Codec). record { codec = x; bytes = bytes_of f.fix }) c in
-    let push = map_push (λ (d : Decision). d.rec) ds new in
-    let later = more (ds ++ new ∷ []) (record { last = Some f.fix; watched = f.fix.values.items }) (one_more device.slots load) in
-    let made = chosen (due_by device.period (time_of w.last) f.fix.time) (plain_record (bytes_of f.fix) ∷ rest) (made_from device.period (time_of w.last) fs) due in
-    ap (λ (x : Decided). records_decided (after_fixes device (history_by_decided device ds load x) fs).decisions) is
-    ∙ (later ∙ (ap (λ (xs : List Record). xs ++ rest) push ∙ (append_assoc (records_decided ds) (new.rec ∷ []) rest
-    ∙ (ap (λ (r : Record). records_decided ds ++ r ∷ rest) same ∙ ap (λ (xs : List Record). records_decided ds ++ xs) (sym made)))))
-decides_one device ds w load f fs false e c more =
-    let due = due_is device.period w.last f.fix ∙ e in
-    let yes : Decided = record { records = record { codec = device.codec; bytes = bytes_of f.fix } ∷ []; watching = record { last = Some f.fix; watched = f.fix.values.items } } in
-    let no : Decided = record { records = []; watching = record { last = w.last; watched = f.fix.values.items } } in
-    let is : decided device w f.fix ≡ no = other (is_due device.period w.last f.fix) yes no e in
-    let rest = made_from device.period (Some f.fix.time) fs in
-    let later = more ds (record { last = w.last; watched = f.fix.values.items }) load in
-    let made = other (due_by device.period (time_of w.last) f.fix.time) (plain_record (bytes_of f.fix) ∷ rest) (made_from device.period (time_of w.last) fs) due in
-    ap (λ (x : Decided). records_decided (after_fixes device (history_by_decided device ds load x) fs).decisions) is
-    ∙ (later ∙ ap (λ (xs : List Record). records_decided ds ++ xs) (sym made))
-
-pub fixes_decide : (device : Device) (ds : List Decision) (w : Watching) (load : ℕ) (fs : List NumberedFix) → device.codec ≡ C8
-    → records_decided (after_fixes device (history_with ds w load) fs).decisions ≡ records_decided ds ++ made_from device.period (time_of w.last) fs
+pub fixes_decide : (device : Device) (ds : List Decision) (w : Watching) (load : ℕ) (fs : List NumberedFix)
+    → records_decided (after_fixes device (history_with ds w load) fs).decisions ≡ records_decided ds ++ made_from (settings_of device) w fs
 unfolding made_from
-fixes_decide device ds w load [] c = sym (append-nil (records_decided ds))
-fixes_decide device ds w load (f ∷ fs) c =
-    decides_one device ds w load f fs (is_due device.period w.last f.fix) refl c (λ ds w load. fixes_decide device ds w load fs c)
+fixes_decide device ds w load [] = sym (append-nil (records_decided ds))
+fixes_decide device ds w load (f ∷ fs) =
+    let now = decided (settings_of device) w f.fix in
+    let first : LineProgress = record { decisions = ds; number = 0; load = load; cost = 0 } in
+    let line = progress_of device.slots None ds load now.records in
+    let later = made_from (settings_of device) now.watching fs in
+    fixes_decide device line.decisions now.watching line.load fs
+    ∙ (ap (λ xs. xs ++ later) (line_decides device.slots None first now.records) ∙ append_assoc (records_decided ds) now.records later)
 
 pub decided_is : (s : PlainScript) (ends : List DeviceEnd) → records_decided (history_of (plain_device s) (steps_of (plain_lines s) ends)).decisions ≡ made_by s
-decided_is s ends = ap records_decided (history_is s ends) ∙ fixes_decide (plain_device s) [] powered_up 0 s.fixes.items refl
+decided_is s ends = ap records_decided (history_is s ends) ∙ fixes_decide (plain_device s) [] powered_up 0 s.fixes.items
 
 -- what holds of the one device and its outcome holds of each
 pub each_one : (P : Device → DeviceOutcome → Type 0) (s : PlainScript) (d : DeviceOutcome) → P (plain_device s) d → AllZip P (devices_of (plain_lines s)) (d ∷ [])

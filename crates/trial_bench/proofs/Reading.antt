@@ -4,7 +4,7 @@ use Rattle.std.specs.Prelude.{is_none, is_some}
 use Rattle.std.specs.List.{list_all}
 use Rattle.std.proofs.lemmas.List.{append-nil, length-map, map_push}
 use Rattle.std.proofs.lemmas.Bool.{eqb-true, false≢true}
-use Rattle.trial_model.specs.declared.fix.Fix.{Fix}
+use Rattle.acquisition.specs.declared.fix.Fix.{Fix}
 use Rattle.avl_values.specs.declared.codec.Codec.TheVariants.{C8}
 use Rattle.trial_model.specs.Script.{Script, device_on}
 use Rattle.trial_model.specs.declared.order.Order.TheVariants.{Oldest}
@@ -108,15 +108,15 @@ is_empty : (round : Option NumberedRound) → is_none round ≡ true → round �
 is_empty None h = refl
 is_empty (Some r) h = absurd (false≢true h)
 
-pub after_fix : (old new : PlainScript) (number imei : ℕ) (fix : Fix) → may_stand (plain_script_of old) (Entry.Fix imei fix) ≡ true → IsSameDevice old new → new.round ≡ old.round
-    → new.fixes.items ≡ old.fixes.items ++ record { number = number; fix = fix } ∷ [] → with_line number (plain_script_of old) (Some (Entry.Fix imei fix)) ≡ Ok (plain_script_of new)
-after_fix old new number imei fix may same rest h =
-    let parts = both _ _ (sym (may_fix old imei fix) ∙ may) in
+pub after_fix : (old new : PlainScript) (imei : ℕ) (f : NumberedFix) → may_stand (plain_script_of old) (Entry.Fix imei f.fix) ≡ true → IsSameDevice old new → new.round ≡ old.round
+    → new.fixes.items ≡ old.fixes.items ++ f ∷ [] → with_line f.number (plain_script_of old) (Some (Entry.Fix imei f.fix)) ≡ Ok (plain_script_of new)
+after_fix old new imei f may same rest h =
+    let parts = both _ _ (sym (may_fix old imei f.fix) ∙ may) in
     let none = is_empty old.round parts.0 in
     let who : (old.imei == imei) ≡ true = (both _ _ (both _ _ parts.1).1).0 in
     let is : old.imei ≡ imei = eqb-true old.imei imei who in
-    let added = fix_added old new (record { number = number; fix = fix }) same none (rest ∙ none) h in
-    stands number (plain_script_of old) (Entry.Fix imei fix) may ∙ ap Ok (sym (subst (λ i. plain_script_of new ≡ plain_script_of old ++ (number, Entry.Fix i fix) ∷ []) is added))
+    let added = fix_added old new f same none (rest ∙ none) h in
+    stands f.number (plain_script_of old) (Entry.Fix imei f.fix) may ∙ ap Ok (sym (subst (λ i. plain_script_of new ≡ plain_script_of old ++ (f.number, Entry.Fix i f.fix) ∷ []) is added))
 
 pub after_round : (old new : PlainScript) (number imei piece : ℕ) → may_stand (plain_script_of old) (Entry.Round imei piece None None) ≡ true → IsSameDevice old new
     → new.round ≡ Some (record { number = number; piece = piece }) → new.fixes.items ≡ old.fixes.items → with_line number (plain_script_of old) (Some (Entry.Round imei piece None None)) ≡ Ok (plain_script_of new)

@@ -1,29 +1,11 @@
--- The bytes of a record, and lists of records.
-use Rattle.std.proofs.Common.{◌≡◌, ℕ, ◌+◌, ◌<◌, ◌||◌, Bool, true, false, List, [], ◌∷◌, ◌++◌, length, get_or, take, append_assoc, refl, sym, ap, ◌∙◌}
+-- Lists of records.
+use Rattle.std.proofs.Common.{◌≡◌, ℕ, ◌+◌, ◌<◌, ◌||◌, Bool, true, false, List, [], ◌∷◌, length, get_or, take, refl, sym, ap, ◌∙◌}
 use Rattle.std.specs.List.{list_any}
-use Rattle.std.specs.Int.{cast_unsigned, to_be_bytes, w16, w32, w64}
 use Rattle.std.proofs.lemmas.List.Folds.{list_any_at, list_any_more}
 use Rattle.avl_values.specs.Record.{Record}
 use Rattle.avl_values.specs.Viewed.{record_of, records_of}
-use Rattle.avl_values.specs.declared.gps.Gps.{Gps}
 use Rattle.avl_values.specs.declared.rec.Rec.{Rec}
-use Rattle.trial_model.specs.Acquisition.{bytes_of, gps_bytes}
 use Rattle.trial_model.specs.RecordLists.{is_listed, is_same}
-use Rattle.trial_model.specs.declared.fix.Fix.{Fix}
-
-pub gps_joined : (start : List ℕ) (g : Gps)
-    → start ++ to_be_bytes w32 (cast_unsigned w32 g.longitude) ++ to_be_bytes w32 (cast_unsigned w32 g.latitude) ++ to_be_bytes w16 (cast_unsigned w16 g.altitude)
-    ++ to_be_bytes w16 g.angle ++ g.satellites ∷ [] ++ to_be_bytes w16 g.speed ≡ start ++ gps_bytes g
-unfolding gps_bytes
-gps_joined start g = simp append_assoc
-
-pub fix_joined : (fix : Fix) → to_be_bytes w64 fix.time ++ 0 ∷ [] ++ gps_bytes fix.gps ++ 0 ∷ 0 ∷ 0 ∷ 0 ∷ 0 ∷ 0 ∷ [] ≡ bytes_of fix
-unfolding bytes_of
-fix_joined fix = simp append_assoc
-
-pub gps_length : (g : Gps) → length (gps_bytes g) ≡ 15
-unfolding gps_bytes
-gps_length g = refl
 
 -- a list of tracker's records as records
 any_of_records : (p : Record → Bool) (recs : List Rec) → list_any p (records_of recs) ≡ list_any (λ r. p (record_of r)) recs

@@ -1,4 +1,3 @@
-pub mod GpsFits
 pub mod Lines
 pub mod Numbers
 pub mod PlainConnection

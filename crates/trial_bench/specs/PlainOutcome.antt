@@ -1,24 +1,24 @@
 -- The whole outcome of a script that is built, as a function of the script.
-use Rattle.std.specs.Prelude.{ℕ, List, [], ◌∷◌, Option, Some, None, if◌then◌else◌}
+use Rattle.std.specs.Prelude.{ℕ, List, [], ◌∷◌, ◌++◌, Option, Some, None}
+use Rattle.acquisition.specs.Deciding.{decided}
+use Rattle.acquisition.specs.Settings.{AcquisitionSettings}
+use Rattle.acquisition.specs.Watching.{Watching, powered_up}
 use Rattle.avl_values.specs.Record.{Record}
-use Rattle.trial_bench.specs.PlainFrame.{plain_record}
-use Rattle.trial_model.specs.Acquisition.{bytes_of}
 use Rattle.trial_model.specs.RecordLists.{first_places}
 use Rattle.trial_model.specs.Results.{Results}
 use Rattle.trial_bench.specs.PlainConnection.{connection_of}
-use Rattle.trial_bench.specs.Tracker.{due_by}
+use Rattle.trial_bench.specs.Tracker.{period_alone}
 use Rattle.trial_bench.specs.declared.plain_script.NumberedFix.{NumberedFix}
 use Rattle.trial_bench.specs.declared.plain_script.NumberedRound.{NumberedRound}
 use Rattle.trial_bench.specs.declared.plain_script.PlainScript.{PlainScript}
 
--- the records that fixes make, by the period and the time of the last fix that made one
-unfoldable pub made_from : ℕ → Option ℕ → List NumberedFix → List Record
-made_from period last [] = []
-made_from period last (f ∷ fs) =
-    if due_by period last f.fix.time then plain_record (bytes_of f.fix) ∷ made_from period (Some f.fix.time) fs else made_from period last fs
+-- the records that fixes make, one after the other, by what the device remembers before them
+unfoldable pub made_from : AcquisitionSettings → Watching → List NumberedFix → List Record
+made_from settings before [] = []
+made_from settings before (f ∷ fs) = let now = decided settings before f.fix in now.records ++ made_from settings now.watching fs
 
 abbrev pub made_by : PlainScript → List Record
-made_by s = made_from s.period None s.fixes.items
+made_by s = made_from (period_alone s.period) powered_up s.fixes.items
 
 -- without a round all records stay on flash
 abbrev pub without_connection : ℕ → List Record → List Record → Results

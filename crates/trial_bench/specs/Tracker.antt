@@ -1,29 +1,25 @@
--- What the device's end does with a fix: the period alone decides.
-use Rattle.std.specs.Prelude.{ℕ, ◌≡◌, ◌==◌, ◌&&◌, ◌++◌, nat_le, not, Bool, true, List, [], ◌∷◌, Option, None, Some, if◌then◌else◌}
-use Rattle.std.specs.Int.{abs_diff}
+-- What the device's end does with a fix.
+use Rattle.std.specs.Prelude.{ℕ, ◌≡◌, ◌++◌, List, []}
 use Rattle.std.specs.List.{fold}
+use Rattle.acquisition.specs.Deciding.{decided}
+use Rattle.acquisition.specs.Settings.{AcquisitionSettings}
+use Rattle.acquisition.specs.Sound.{AreRecordsOf}
+use Rattle.acquisition.specs.declared.fix.Fix.{Fix}
 use Rattle.avl_values.specs.Record.{Record}
-use Rattle.trial_bench.specs.PlainFrame.{ArePlain, plain_record}
-use Rattle.trial_model.specs.Acquisition.{bytes_of}
+use Rattle.avl_values.specs.declared.codec.Codec.TheVariants.{C8}
 use Rattle.trial_model.specs.RecordLists.{add_once}
-use Rattle.trial_model.specs.declared.fix.Fix.{Fix}
 use Rattle.trial_bench.specs.declared.tracker.PlainTracker.{PlainTracker}
 
--- by the period, the time of the last fix that made a record, and the time now
-abbrev pub due_by : ℕ → Option ℕ → ℕ → Bool
-due_by period None time = true
-due_by period (Some last) time = not (period == 0) && nat_le period (abs_diff time last)
-
-abbrev pub is_due_now : PlainTracker → Fix → Bool
-is_due_now t fix = due_by t.period t.last fix.time
+-- the settings of a device of Codec 8 whose period alone decides
+abbrev pub period_alone : ℕ → AcquisitionSettings
+period_alone period = record { codec = C8; period = period; distance = 0; angle = 0; speed = 0; ios = [] }
 
 -- the records that a fix makes
 abbrev pub made_of : PlainTracker → Fix → List Record
-made_of t fix = if is_due_now t fix then plain_record (bytes_of fix) ∷ [] else []
+made_of t fix = (decided t.acquirer.settings t.acquirer.watching fix).records
 
 pub record TakesFix (old : PlainTracker) (fix : Fix) (new : PlainTracker) : Type 0 where
-  pub period : new.period ≡ old.period
-  pub last : new.last ≡ (if is_due_now old fix then Some fix.time else old.last)
+  pub acquirer : new.acquirer ≡ record old.acquirer { watching = (decided old.acquirer.settings old.acquirer.watching fix).watching }
   pub acquired : new.acquired ≡ fold add_once old.acquired (made_of old fix)
   pub flash : new.flash ≡ old.flash ++ made_of old fix
-  pub plain : ArePlain (made_of old fix)
+  pub sound : AreRecordsOf old.acquirer.settings.codec (made_of old fix)

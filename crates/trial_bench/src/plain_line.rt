@@ -1,13 +1,13 @@
-ghost use Rattle.std.specs.Prelude.{◌≡◌, option_map};
+ghost use Rattle.std.specs.Prelude.{◌≡◌, IfSome, option_map};
 ghost use Rattle.trial_bench.specs.PlainLines.{device_line, fix_line, is_plain_device, is_whole_round, plain_line, round_line, ten_line};
-ghost use Rattle.trial_bench.specs.ReadLine.{says};
+ghost use Rattle.trial_bench.specs.ReadLine.{IsBare, says};
 ghost use Rattle.trial_bench.specs.Texts.{five_texts, ten_texts};
 
 use crate::number;
 use crate::text::{FiveFields, TenFields, five_fields, ten_fields};
+use acquisition::Fix;
 use arrayvec::ArrayVec;
 use avl_values::{Gps, Imei};
-use trial_model::Fix;
 
 /// A line that is built.
 #[derive(Debug, Drop)]
@@ -23,7 +23,8 @@ pub enum PlainLine {
 
 /// What a line says; None exactly where it isn't built.
 pub fn plain_line(line: &[u8]) -> Option<PlainLine>
-    ensures { option_map says result ≡ plain_line line.now }
+    ensures says { option_map says result ≡ plain_line line.now }
+    ensures bare { IfSome result IsBare }
 {
     match ten_fields(line) {
         Some(fields) => ten_line(&fields),
@@ -35,7 +36,8 @@ pub fn plain_line(line: &[u8]) -> Option<PlainLine>
 }
 
 fn ten_line(fields: &TenFields<'_>) -> Option<PlainLine>
-    ensures { option_map says result ≡ ten_line (ten_texts fields.now) }
+    ensures says { option_map says result ≡ ten_line (ten_texts fields.now) }
+    ensures bare { IfSome result IsBare }
 {
     if fields.word == b"device".as_slice() {
         return device_line(fields);
@@ -48,7 +50,8 @@ fn ten_line(fields: &TenFields<'_>) -> Option<PlainLine>
 
 #[tactic(auto, unfolding(crate::specs::PlainLines::device_line))]
 fn device_line(fields: &TenFields<'_>) -> Option<PlainLine>
-    ensures { option_map says result ≡ device_line (ten_texts fields.now) }
+    ensures says { option_map says result ≡ device_line (ten_texts fields.now) }
+    ensures bare { IfSome result IsBare }
 {
     if !is_plain_device(fields) {
         return None;
@@ -76,7 +79,8 @@ fn is_plain_device(fields: &TenFields<'_>) -> bool
 
 #[tactic(auto, unfolding(crate::specs::PlainLines::fix_line))]
 fn fix_line(fields: &TenFields<'_>) -> Option<PlainLine>
-    ensures { option_map says result ≡ fix_line (ten_texts fields.now) }
+    ensures says { option_map says result ≡ fix_line (ten_texts fields.now) }
+    ensures bare { IfSome result IsBare }
 {
     let imei = number::imei(fields.imei)?;
     let time = number::number(0, u64::MAX, fields.third)?;
@@ -106,7 +110,8 @@ fn fix_line(fields: &TenFields<'_>) -> Option<PlainLine>
 
 #[tactic(auto, unfolding(crate::specs::PlainLines::round_line))]
 fn round_line(fields: &FiveFields<'_>) -> Option<PlainLine>
-    ensures { option_map says result ≡ round_line (five_texts fields.now) }
+    ensures says { option_map says result ≡ round_line (five_texts fields.now) }
+    ensures bare { IfSome result IsBare }
 {
     if !is_whole_round(fields) {
         return None;

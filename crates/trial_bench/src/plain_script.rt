@@ -1,13 +1,14 @@
-ghost use Rattle.std.specs.Prelude.{◌≤◌, vec_len};
+ghost use Rattle.std.specs.Prelude.{◌≡◌, ◌≤◌, length, vec_len};
 
+use acquisition::Fix;
 use avl_values::Imei;
-use trial_model::Fix;
 
-/// A `fix` line, with its number.
+/// A `fix` line without I/O values, with its number.
 #[derive(Debug, Drop)]
 pub struct NumberedFix {
     pub number: u32,
     pub fix: Fix,
+    ghost bare: { length fix.values.items ≡ 0 },
 }
 
 /// A `round` line, with its number and the greatest size of a piece in bytes.

@@ -1,20 +1,20 @@
-ghost use Rattle.std.specs.Prelude.{◌≡◌, ◌<◌, ℕ, true, IfOk, IfErr, IsTrue, vec_len};
+ghost use Rattle.std.specs.Prelude.{◌≡◌, ◌<◌, ℕ, true, IfOk, IfErr, IsTrue, length, vec_len};
 ghost use Rattle.avl_values.specs.declared.codec.Codec.TheVariants.{C8};
 ghost use Rattle.trial_model.specs.declared.order.Order.TheVariants.{Oldest};
 ghost use Rattle.trial_bench.specs.Lines.{is_skipped};
 ghost use Rattle.trial_bench.specs.PlainScript.{Refuses, after_text_line, may_stand, script_of, with_line};
-ghost use Rattle.trial_bench.specs.ReadLine.{says};
+ghost use Rattle.trial_bench.specs.ReadLine.{IsBare, says};
 ghost use Rattle.trial_bench.specs.ReadScript.{plain_script_of, script_in};
-ghost use Rattle.trial_model.specs.declared.fix.Fix.{Fix as AnyFix};
+ghost use Rattle.acquisition.specs.declared.fix.Fix.{Fix as AnyFix};
 ghost use Rattle.trial_model.specs.declared.script.ScriptLine.TheVariants as Entry;
 
 use crate::fault::{PlainFault, PlainKind};
 use crate::plain_line::{PlainLine, plain_line};
 use crate::plain_script::{NumberedFix, NumberedRound, PlainScript};
 use crate::text::first_line;
+use acquisition::Fix;
 use avl_values::Imei;
 use std::alloc::Global;
-use trial_model::Fix;
 
 /// The most bytes of a text.
 const LONGEST: usize = 0x100_0000;
@@ -91,6 +91,7 @@ fn with_line(
     line: PlainLine,
     script: Option<PlainScript>,
 ) -> Result<Option<PlainScript>, PlainFault>
+    requires { IsBare line }
     ensures script { IfOk result (λ s. with_line number (script_in script) (Some (says line)) ≡ Ok (script_in s)) }
     ensures refused { IfErr result (Refuses (with_line number (script_in script) (Some (says line)))) }
 {
@@ -142,6 +143,7 @@ fn with_fix(
     imei: Imei,
     fix: Fix,
 ) -> Result<Option<PlainScript>, PlainFault>
+    requires { length fix.values.items ≡ 0 }
     ensures script { IfOk result (λ s. with_line number (plain_script_of script) (Some (Entry.Fix imei fix)) ≡ Ok (script_in s)) }
     ensures refused { IfErr result (Refuses (with_line number (plain_script_of script) (Some (Entry.Fix imei fix)))) }
 {

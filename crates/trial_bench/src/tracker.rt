@@ -1,58 +1,52 @@
 ghost use Rattle.std.specs.Prelude.{◌≡◌, [], OnOk};
-ghost use Rattle.trial_bench.specs.Tracker.{TakesFix, due_by};
+ghost use Rattle.acquisition.specs.Elements.{ValuesFit};
+ghost use Rattle.acquisition.specs.Watching.{powered_up};
+ghost use Rattle.trial_bench.specs.Tracker.{TakesFix, period_alone};
 
-use crate::record::{add_once, record_of_fix};
-use avl_values::{NoMemory, RecList};
+use crate::record::add_once;
+use acquisition::{Acquirer, Fix, Settings};
+use avl_values::{Codec, NoMemory, RecList};
 use std::alloc::Global;
-use trial_model::Fix;
 
-/// The device's end: what it made of its fixes, and what is on its flash.
-#[derive(Debug, Drop)]
+/// The device's end: what it acquires records by, what it made of its fixes, and what is on its flash.
+#[derive(Drop)]
 pub struct PlainTracker {
-    /// Milliseconds between two records; 0 switches it off.
-    pub period: u64,
-    /// The time of the last fix that made a record.
-    pub last: Option<u64>,
+    pub acquirer: Acquirer,
     /// The records made, each once.
     pub acquired: RecList,
     /// The records in open slots, in order of sequence.
     pub flash: RecList,
 }
 
-/// A device at power-up, with an empty flash.
+/// A device at power-up, with an empty flash. Its period in milliseconds alone decides; 0 switches it off.
 pub fn new_tracker(alloc: Global, period: u64) -> PlainTracker
-    ensures period { result.period ≡ period }
-    ensures last { result.last ≡ None }
+    ensures acquirer { result.acquirer ≡ record { settings = period_alone period; watching = powered_up } }
     ensures acquired { result.acquired ≡ [] }
     ensures flash { result.flash ≡ [] }
 {
     PlainTracker {
-        period,
-        last: None,
+        acquirer: Acquirer::new(period_alone(period)),
         acquired: RecList::new(alloc),
         flash: RecList::new(alloc),
     }
 }
 
-/// Stores the record of a fix, where it makes one.
-pub fn take_fix(tracker: &mut PlainTracker, fix: &Fix) -> Result<(), NoMemory>
-    ensures { OnOk result (TakesFix tracker.old fix.now tracker.new) }
+// The settings of a device of Codec 8 whose period alone decides. They have no fault.
+fn period_alone(period: u64) -> Settings
+    ensures { result ≡ period_alone period }
 {
-    if !is_due(tracker.period, tracker.last, fix.time) {
-        return Ok(());
-    }
-    let rec = record_of_fix(fix);
-    add_once(&mut tracker.acquired, &rec)?;
-    tracker.flash.push(rec)?;
-    tracker.last = Some(fix.time);
-    Ok(())
+    Settings::check(Codec::C8, period, 0, 0, 0, &[]).unwrap()
 }
 
-fn is_due(period: u64, last: Option<u64>, time: u64) -> bool
-    ensures { result ≡ due_by period last time }
+/// Stores the records that a fix makes, in order.
+pub fn take_fix(tracker: &mut PlainTracker, fix: &Fix) -> Result<(), NoMemory>
+    requires { ValuesFit tracker.old.acquirer.settings.ios fix.now.values.items }
+    ensures { OnOk result (TakesFix tracker.old fix.now tracker.new) }
 {
-    match last {
-        None => true,
-        Some(last) => period != 0 && period <= time.abs_diff(last),
+    let made = tracker.acquirer.fix(fix);
+    for rec in made.as_slice() {
+        add_once(&mut tracker.acquired, rec)?;
+        tracker.flash.push(rec.copy())?;
     }
+    Ok(())
 }

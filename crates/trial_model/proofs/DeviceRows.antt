@@ -5,7 +5,7 @@ use Rattle.trial_model.specs.declared.outcome.DeviceEnd.TheVariants as End
 use Rattle.trial_model.specs.declared.outcome.DeviceEnd.{DeviceEnd}
 use Rattle.trial_model.specs.declared.script.ScriptLine.{ScriptLine}
 use Rattle.trial_model.specs.declared.script.ScriptLine.TheVariants as Line
-use Rattle.trial_model.specs.Acquisition.{bytes_of, gps_bytes, powered_up}
+use Rattle.acquisition.specs.Watching.{powered_up}
 use Rattle.trial_model.specs.Cover.{IsBelow}
 use Rattle.trial_model.specs.Decisions.{DeviceHistory, history_of, records_decided, steps_of}
 use Rattle.trial_model.specs.RecordLists.{first_places}
@@ -31,7 +31,6 @@ pub forgets_at_power_loss : length (after 2 (fix 0 ∷ fix 0 ∷ Line.Power mine
 forgets_at_power_loss = refl
 
 pub equal_records_are_one : length (first_places (records_decided (after 2 (fix 0 ∷ fix 0 ∷ Line.Power mine ∷ fix 0 ∷ []) []).decisions)) ≡ 1
-unfolding bytes_of gps_bytes
 equal_records_are_one = refl
 
 -- a fuse of two calls covers the fix: its store can't be finished

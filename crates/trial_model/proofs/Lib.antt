@@ -1,3 +1,4 @@
+pub mod AcquisitionRows
 pub mod ConnectionRows
 pub mod DeviceRows
 pub mod FrameRows

@@ -1,7 +1,7 @@
 -- Lines from which the worked rows are made: one device, and fixes one second apart.
 use Rattle.std.specs.Prelude.{ℕ, ◌+◌, ◌*◌, pos, true, [], None, Option}
 use Rattle.avl_values.specs.declared.codec.Codec.TheVariants.{C8}
-use Rattle.trial_model.specs.declared.fix.Fix.{Fix}
+use Rattle.acquisition.specs.declared.fix.Fix.{Fix}
 use Rattle.trial_model.specs.declared.order.Order.TheVariants.{Oldest}
 use Rattle.trial_model.specs.declared.script.ScriptLine.{ScriptLine}
 use Rattle.trial_model.specs.declared.script.ScriptLine.TheVariants as Line

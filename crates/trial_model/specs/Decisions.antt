@@ -1,16 +1,17 @@
 -- What a script decides for a device, line after line, with what is told of each decision.
 use Rattle.std.specs.Prelude.{ℕ, ◌+◌, ◌==◌, Bool, true, false, is_some, List, [], ◌∷◌, ◌++◌, map, Option, Some, None, if◌then◌else◌}
 use Rattle.std.specs.List.{fold}
+use Rattle.acquisition.specs.declared.fix.Fix.{Fix}
+use Rattle.acquisition.specs.Deciding.{decided}
+use Rattle.acquisition.specs.Watching.{Watching, powered_up}
 use Rattle.avl_values.specs.Record.{Record}
-use Rattle.trial_model.specs.declared.fix.Fix.{Fix}
 use Rattle.trial_model.specs.declared.outcome.DeviceEnd.{DeviceEnd}
 use Rattle.trial_model.specs.declared.script.ScriptLine.{ScriptLine}
 use Rattle.trial_model.specs.declared.script.ScriptLine.TheVariants as Line
 use Rattle.trial_model.specs.declared.script.Who.{Who}
-use Rattle.trial_model.specs.Acquisition.{Watching, decided, powered_up}
 use Rattle.trial_model.specs.Cover.{is_who}
 use Rattle.trial_model.specs.Load.{load_by, one_more}
-use Rattle.trial_model.specs.Script.{Device, opening_of}
+use Rattle.trial_model.specs.Script.{Device, opening_of, settings_of}
 
 -- A line, and on a `round` or `drain` line how its connection ended for the device.
 pub record Step : Type 0 where
@@ -79,10 +80,10 @@ unless_covered (Some k) watching = powered_up
 
 abbrev pub after_fix : Device → DeviceHistory → Fix → DeviceHistory
 after_fix device h fix = record {
-  decisions = (progress_of device.slots h.fuse h.decisions h.load (decided device h.watching fix).records).decisions;
-  watching = unless_covered h.fuse (decided device h.watching fix).watching;
+  decisions = (progress_of device.slots h.fuse h.decisions h.load (decided (settings_of device) h.watching fix).records).decisions;
+  watching = unless_covered h.fuse (decided (settings_of device) h.watching fix).watching;
   fuse = None;
-  load = (progress_of device.slots h.fuse h.decisions h.load (decided device h.watching fix).records).load;
+  load = (progress_of device.slots h.fuse h.decisions h.load (decided (settings_of device) h.watching fix).records).load;
 }
 
 abbrev pub after_connection : Bool → Option DeviceEnd → DeviceHistory → DeviceHistory

@@ -1,5 +1,4 @@
 pub mod Acquired
-pub mod Acquisition
 pub mod Answers
 pub mod Connections
 pub mod Cover

@@ -2,7 +2,8 @@
 use Rattle.std.specs.Prelude.{ℕ, ◌==◌, Bool, true, false, List, [], ◌∷◌, map, Option, Some, None, if◌then◌else◌}
 use Rattle.std.specs.List.{filter_map}
 use Rattle.avl_values.specs.declared.codec.Codec.{Codec}
-use Rattle.trial_model.specs.declared.io_setting.IoSetting.{IoSetting}
+use Rattle.io_operands.specs.declared.setting.IoSetting.{IoSetting}
+use Rattle.acquisition.specs.Settings.{AcquisitionSettings}
 use Rattle.trial_model.specs.declared.order.Order.{Order}
 use Rattle.trial_model.specs.declared.script.ScriptLine.{ScriptLine}
 use Rattle.trial_model.specs.declared.script.ScriptLine.TheVariants as Line
@@ -27,6 +28,17 @@ pub record Device : Type 0 where
   -- marked `known`: the server accepts its login
   pub known : Bool
   pub settings : List IoSetting
+
+-- what the device acquires records by
+abbrev pub settings_of : Device → AcquisitionSettings
+settings_of device = record {
+  codec = device.codec;
+  period = device.period;
+  distance = device.distance;
+  angle = device.angle;
+  speed = device.speed;
+  ios = device.settings;
+}
 
 -- the setting that a line gives a device
 abbrev pub setting_on : ℕ → ScriptLine → Option IoSetting

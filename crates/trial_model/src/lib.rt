@@ -2,17 +2,15 @@
 //! connections, and (in `specs/`) the whole statement of what every trial keeps, one file for each notion.
 #![tactic(auto)]
 
-mod fix;
 mod got;
-mod io_setting;
 mod order;
 mod outcome;
 mod script;
 mod tear;
 
-pub use fix::Fix;
+pub use acquisition::Fix;
 pub use got::Got;
-pub use io_setting::{IoSetting, Operand};
+pub use io_operands::{IoSetting, Operand};
 pub use order::Order;
 pub use outcome::{ConnectionOutcome, DeviceEnd, DeviceOutcome, Outcome, ServerEnd};
 pub use script::{ScriptLine, Who};

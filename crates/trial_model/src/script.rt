@@ -1,8 +1,8 @@
-use crate::fix::Fix;
-use crate::io_setting::IoSetting;
 use crate::order::Order;
 use crate::tear::Tear;
+use acquisition::Fix;
 use avl_values::{Codec, Imei};
+use io_operands::IoSetting;
 
 /// Whose medium a `power` or a `fuse` line speaks of.
 #[derive(Clone, Copy, Debug, PartialEq, Eq)]

@@ -8,4 +8,4 @@ returns-then-not-takes_fix-clause-refused c =
 
 pub returns-clause-script : goal.returns-clause-script
 returns-clause-script c =
-    after_fix _ _ _ _ _ (sym (c.takes_fix.ensures.takes c.args.fix) ∙ c.if-not-takes_fix.false) (record { number = refl; imei = refl; slots = refl; period = refl }) refl c.in_ok-push.ensures.items
+    after_fix _ _ _ _ (sym (c.takes_fix.ensures.takes c.args.fix) ∙ c.if-not-takes_fix.false) (record { number = refl; imei = refl; slots = refl; period = refl }) refl c.in_ok-push.ensures.items
