@@ -53,7 +53,7 @@ pub record Pushed (old new : DownState) (piece : List ℕ) (n : ℕ) (item : Dow
   pub at_place : IsAtPlace old.after_answer item
   pub state : new ≡ state_after old (old.have ++ take n piece) item
 
--- one byte
+-- The same of one byte, which is taken always.
 pub record PushedByte (old new : DownState) (byte : ℕ) (item : DownItem) : Type 0 where
   pub verdict : down_verdict old.after_answer (old.have ++ byte ∷ []) ≡ item_verdict item (old.have ++ byte ∷ [])
   pub at_place : IsAtPlace old.after_answer item

@@ -57,7 +57,7 @@ pub record Pushed (old new : UpState) (piece : List ℕ) (n : ℕ) (item : UpIte
   pub at_place : IsAtPlace old.after_login item
   pub state : new ≡ state_after old (old.have ++ take n piece) item
 
--- one byte
+-- The same of one byte, which is taken always.
 pub record PushedByte (old new : UpState) (byte : ℕ) (item : UpItem) : Type 0 where
   pub verdict : up_verdict old.after_login (old.have ++ byte ∷ []) ≡ item_verdict item (old.have ++ byte ∷ [])
   pub at_place : IsAtPlace old.after_login item

@@ -48,7 +48,7 @@ impl Model for Up {
 }
 
 impl Up {
-    /// A reader before the login.
+    /// A reader before the login. NoMemory where its two buffers aren't given; nothing is made then.
     pub fn new(alloc: Global) -> Result<Up, NoMemory>
         ensures { IfOk result (λ up. up ≡ before_login) }
     {
@@ -63,7 +63,7 @@ impl Up {
         })
     }
 
-    /// A reader behind a login.
+    /// A reader behind a login. NoMemory where its two buffers aren't given; nothing is made then.
     pub fn frames(alloc: Global) -> Result<Up, NoMemory>
         ensures { IfOk result (λ up. up ≡ before_frames) }
     {

@@ -1,4 +1,4 @@
-ghost use Rattle.std.specs.Prelude.{◌≡◌, ◌<◌, ◌≤◌, length};
+ghost use Rattle.std.specs.Prelude.{◌≡◌, ◌+◌, ◌<◌, ◌≤◌, length};
 
 use arrayvec::ArrayVec;
 use avl_values::{Codec, Fault, FaultKind, Imei};
@@ -315,24 +315,33 @@ fn long_frame(alloc: Global) -> Result<Vec<u8>, AllocError> {
     Ok(frame)
 }
 
-// What was told of a stream: how many bytes were taken, how many logins and packets came, and how many records.
+// What was told of some bytes: how many steps they took, how many logins and packets came, and how many records.
 #[derive(Clone, Copy, Debug, PartialEq, Eq)]
 struct Told {
-    taken: u32,
+    steps: usize,
     logins: u32,
     packets: u32,
     records: u32,
 }
 
-// Pushes bytes one by one, each in one step.
-fn push_single<L: Ledger>(up: &mut Up, bytes: &[u8], steps: &mut Steps<L>, told: Told) -> Told {
-    let mut told = told;
-    for byte in bytes {
+const NOTHING: Told = Told {
+    steps: 0,
+    logins: 0,
+    packets: 0,
+    records: 0,
+};
+
+// Pushes bytes one by one. It counts the steps, of which the count that takes no bytes tells the same.
+fn push_single<L: Ledger>(up: &mut Up, bytes: &[u8], steps: &mut Steps<L>) -> Told
+    ensures { steps.new ≡ steps.old + result.steps }
+{
+    let mut told = NOTHING;
+    for i in 0..bytes.len() {
         if up.failed() {
             return told;
         }
-        let (n, item) = up.push_counted(&[*byte], steps);
-        told.taken = told.taken.saturating_add(n as u32);
+        let (n, item) = up.push_counted(&bytes[i..i + 1], steps);
+        told.steps += n;
         match item {
             UpItem::Login(_) => told.logins = told.logins.saturating_add(1),
             UpItem::Packet(head) => {
@@ -343,6 +352,16 @@ fn push_single<L: Ledger>(up: &mut Up, bytes: &[u8], steps: &mut Steps<L>, told:
         }
     }
     told
+}
+
+// What was told of some bytes, and of more behind them.
+fn both(a: Told, b: Told) -> Told {
+    Told {
+        steps: a.steps.saturating_add(b.steps),
+        logins: a.logins.saturating_add(b.logins),
+        packets: a.packets.saturating_add(b.packets),
+        records: a.records.saturating_add(b.records),
+    }
 }
 
 // A login and sixteen long frames, byte by byte.
@@ -359,15 +378,9 @@ fn long_stream<L: Ledger>(alloc: Global, blank: Blank) -> Option<Told>
         return None;
     };
     let mut steps = Steps::<L>::new(blank);
-    let mut told = Told {
-        taken: 0,
-        logins: 0,
-        packets: 0,
-        records: 0,
-    };
-    told = push_single(&mut up, &login, &mut steps, told);
+    let mut told = push_single(&mut up, &login, &mut steps);
     for _ in 0..16 {
-        told = push_single(&mut up, &frame, &mut steps, told);
+        told = both(told, push_single(&mut up, &frame, &mut steps));
     }
     Some(told)
 }
@@ -378,7 +391,7 @@ fn a_million_bytes_one_by_one(rt: HostRuntime) -> Result<(), Fail> {
     assert_eq!(rt;
         told,
         Told {
-            taken: 1_040_657,
+            steps: 1_040_657,
             logins: 1,
             packets: 16,
             records: 16 * 255,
