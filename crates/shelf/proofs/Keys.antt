@@ -1,6 +1,6 @@
 -- The order of the index's keys tells them apart as the test on plain keys does.
-use Rattle.std.proofs.Common.{◌≡◌, ℕ, Bool, true, false, cond, ◌&&◌, if◌then◌else◌, List, [], ◌∷◌, map, Option, Some, None, Vec, Global, sym, ◌∙◌, ap, refl, subst, arith, eqb}
-use Rattle.std.specs.Prelude.{nat_eq, nat_lt, ◌==◌}
+use Rattle.std.proofs.Common.{◌≡◌, ℕ, Bool, true, false, cond, ◌&&◌, if◌then◌else◌, List, [], ◌∷◌, map, Option, Some, Vec, Global, sym, ◌∙◌, ap, refl, subst, arith}
+use Rattle.std.specs.Prelude.{nat_eq, ◌==◌}
 use Rattle.std.specs.Ordering.{is_eq, nat_cmp, ordering_then, match_ordering}
 use Rattle.std.specs.declared.cmp.Ordering.{Ordering}
 use Rattle.std.specs.declared.cmp.Ordering.TheVariants.{Less, Equal, Greater}

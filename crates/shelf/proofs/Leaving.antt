@@ -1,8 +1,8 @@
 -- What each exit of `admit` leaves.
-use Rattle.std.proofs.Common.{◌≡◌, inl, inr, ℕ, ◌+◌, ◌-◌, ◌<◌, ◌≤◌, ◌^◌, Bool, true, false, if◌then◌else◌, List, [], ◌∷◌, ◌++◌, length, take, drop, map, Option, Some, None, Result, Ok, Err, sym, ◌∙◌, ap, refl, subst, arith, length-append, append_assoc}
+use Rattle.std.proofs.Common.{◌≡◌, inl, inr, ℕ, ◌-◌, ◌<◌, ◌≤◌, Bool, true, false, if◌then◌else◌, List, [], ◌∷◌, ◌++◌, length, take, drop, map, Option, Some, None, Ok, Err, sym, ◌∙◌, ap, refl, subst, arith, length-append, append_assoc}
 use Rattle.std.proofs.lemmas.List.{append-nil, length-map, take_at, drop_at, take_rest}
 use Rattle.std.proofs.lemmas.Bool.{cases_lt}
-use Rattle.avl_values.specs.Causes.{Rose, IsAbove}
+use Rattle.avl_values.specs.Causes.{Rose}
 use Rattle.avl_values.specs.Record.{Record}
 use Rattle.medium.specs.Content.{Content}
 use Rattle.medium.specs.State.{MediumState, IfTold, EveryImage, Counted}
@@ -13,11 +13,9 @@ use Rattle.archive_journal.specs.Entries.{entries_of}
 use Rattle.archive_journal.specs.Journal.{JournalView, EachHolds, HoldsWith, IsEither, unchanged, changed, IsTold, entries_told, with_entry}
 use Rattle.archive_journal.specs.Journal as journal
 use Rattle.shelf.specs.Archive.{StoredValue, stored, has, add, admitted, fresh, listed, list_of, ArePlaces, Begins}
-use Rattle.shelf.specs.Admits.{Answer, Admits}
 use Rattle.shelf.specs.Index.{Keyed, IsComplete}
-use Rattle.shelf.specs.Shelf.{ShelfView, front, Lists, IsDurable, HasList, IsShelf, new_entry, calls_for, recs_of, Leaves}
+use Rattle.shelf.specs.Shelf.{ShelfView, Lists, IsDurable, HasList, IsShelf, new_entry, calls_for, recs_of, Leaves}
 use Rattle.shelf.specs.declared.receipt.Receipt.{Receipt}
-use Rattle.shelf.specs.declared.receipt.AdmitFault.{AdmitFault}
 use Rattle.shelf.specs.declared.receipt.AdmitFault.TheVariants.{Down, NoMemory, MediumFault}
 use Rattle.shelf.proofs.Lists.{complete-front}
 

@@ -4,3 +4,4 @@ pub mod Stages
 pub mod Leaving
 pub mod Making
 pub mod Opening
+pub mod Devices

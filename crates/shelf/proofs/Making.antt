@@ -1,11 +1,11 @@
 -- The new records of a packet make an entry.
-use Rattle.std.proofs.Common.{◌≡◌, ℕ, ◌+◌, ◌<◌, ◌≤◌, ◌^◌, Bool, true, false, if◌then◌else◌, List, [], ◌∷◌, ◌++◌, length, sym, ◌∙◌, ap, refl, subst, arith, length-append}
+use Rattle.std.proofs.Common.{◌≡◌, ℕ, ◌<◌, ◌≤◌, ◌^◌, Bool, true, false, if◌then◌else◌, List, [], ◌∷◌, ◌++◌, length, ◌∙◌, ap, refl, arith, length-append}
 use Rattle.std.specs.List.{flat_map, AllByRecursion}
 use Rattle.avl_values.specs.Record.{Record}
 use Rattle.avl_values.specs.declared.codec.Codec.{Codec}
 use Rattle.record_layout.specs.RecordsOf.{records_of}
 use Rattle.archive_journal.specs.Body.{joined}
-use Rattle.archive_journal.specs.Entry.{IsIn, IsEntry}
+use Rattle.archive_journal.specs.Entry.{IsIn}
 use Rattle.archive_journal.proofs.Packets.{IsWhole, in_codec, packet-entry}
 use Rattle.shelf.specs.Archive.{StoredValue, stored, has, fresh}
 use Rattle.shelf.specs.Shelf.{MakesEntry, calls_for}

@@ -1,12 +1,11 @@
 -- Records and entries listed one after the other.
-use Rattle.std.proofs.Common.{◌≡◌, ℕ, zero, suc, true, false, ◌+◌, ◌<◌, Option, None, List, [], ◌∷◌, ◌++◌, length, get_or, take, slice_get, Some, sym, ◌∙◌, ap, refl, subst, arith}
+use Rattle.std.proofs.Common.{◌≡◌, ℕ, zero, suc, true, false, ◌+◌, ◌<◌, Option, None, List, [], ◌∷◌, ◌++◌, length, get_or, take, slice_get, Some, sym, ◌∙◌, ap, refl, arith}
 use Rattle.std.specs.List.{AllByRecursion}
 use Rattle.std.specs.Option.{IfSome}
 use Rattle.std.proofs.lemmas.List.{take_more}
 use Rattle.std.proofs.lemmas.Option.{slice_get-get_or, slice_get_within, get_or_from_slice_get}
 use Rattle.avl_values.specs.Record.{Record}
 use Rattle.avl_values.specs.declared.codec.Codec.{Codec}
-use Rattle.record_layout.specs.SomeRecord.{IsSomeRecord}
 use Rattle.medium.specs.Content.{Content}
 use Rattle.medium.specs.State.{IfTold}
 use Rattle.archive_journal.specs.Body.{EntryValue}

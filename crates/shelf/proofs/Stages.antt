@@ -1,5 +1,5 @@
 -- A packet staged, record by record.
-use Rattle.std.proofs.Common.{◌≡◌, ℕ, ◌+◌, ◌<◌, ◌≤◌, Bool, true, false, List, [], ◌∷◌, ◌++◌, length, map, slice_get, Some, sym, ◌∙◌, ap, refl, subst, arith, length-append, append_assoc, if◌then◌else◌}
+use Rattle.std.proofs.Common.{◌≡◌, ℕ, ◌+◌, ◌<◌, Bool, true, false, List, [], ◌∷◌, ◌++◌, length, slice_get, Some, sym, ◌∙◌, ap, refl, subst, arith, length-append, append_assoc, if◌then◌else◌}
 use Rattle.std.specs.List.{AllByRecursion}
 use Rattle.std.proofs.lemmas.List.{append-nil, length-map, take_all}
 use Rattle.avl_values.specs.Record.{Record}
@@ -13,7 +13,7 @@ use Rattle.record_layout.specs.RecordsOf.{records_of, count_of}
 use Rattle.record_layout.specs.declared.head.PacketHead.{PacketHead}
 use Rattle.record_layout.proofs.ReadLaws.{whole_packet, records_read}
 use Rattle.archive_journal.proofs.Packets.{IsWhole, in_codec}
-use Rattle.shelf.specs.Archive.{StoredValue, stored, has, add, admitted, fresh, ArePlaces, Begins}
+use Rattle.shelf.specs.Archive.{StoredValue, stored, has, add, admitted, ArePlaces, Begins}
 use Rattle.shelf.specs.Index.{Keyed, IsComplete}
 use Rattle.shelf.proofs.Lists.{get-front}
 

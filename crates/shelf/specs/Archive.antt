@@ -1,5 +1,5 @@
 -- The record list of an archive: each record of a device once, at its first place (this project's own).
-use Rattle.std.specs.Prelude.{◌≡◌, ℕ, ◌==◌, ◌&&◌, ◌||◌, nat_eq, if◌then◌else◌, Bool, false, List, [], ◌∷◌, ◌++◌, map, slice_get, Some}
+use Rattle.std.specs.Prelude.{◌≡◌, ℕ, ◌+◌, ◌==◌, ◌&&◌, ◌||◌, nat_eq, if◌then◌else◌, Bool, false, List, [], ◌∷◌, ◌++◌, slice_get, Some}
 use Rattle.std.specs.Cmp.Lexicographic.{pointwise}
 use Rattle.avl_values.specs.Codec.{is_codec}
 use Rattle.avl_values.specs.Record.{Record}
@@ -60,3 +60,25 @@ IsOnce list = (p q : ℕ) (s : StoredValue) → slice_get list p ≡ Some s → 
 pub record Begins (old new : List StoredValue) : Type 0 where
   pub more : List StoredValue
   pub is : new ≡ old ++ more
+
+-- the places of a device's records, rising, the list's first place being the given one
+abbrev pub places_from : ℕ → List StoredValue → ℕ → List ℕ
+places_from k [] imei = []
+places_from k (s ∷ list) imei = if s.imei == imei then k ∷ places_from (k + 1) list imei else places_from (k + 1) list imei
+
+abbrev pub places_of : List StoredValue → ℕ → List ℕ
+places_of list imei = places_from 0 list imei
+
+-- a record of this device is listed
+abbrev pub has_device : List StoredValue → ℕ → Bool
+has_device [] imei = false
+has_device (s ∷ list) imei = (s.imei == imei) || has_device list imei
+
+-- how many devices come for the first time behind these records
+abbrev pub devices_after : List StoredValue → List StoredValue → ℕ
+devices_after seen [] = 0
+devices_after seen (s ∷ list) = (if has_device seen s.imei then 0 else 1) + devices_after (seen ++ s ∷ []) list
+
+-- how many devices have records
+abbrev pub devices_of : List StoredValue → ℕ
+devices_of list = devices_after [] list

@@ -1,5 +1,5 @@
 -- What contracts see of a shelf, and what a power loss may leave of it, said of its record list.
-use Rattle.std.specs.Prelude.{◌≡◌, ℕ, ◌≤◌, ◌^◌, map, Bool, true, false, List, [], ◌∷◌, length, Option, Result, Ok, Err}
+use Rattle.std.specs.Prelude.{◌≡◌, ℕ, ◌≤◌, ◌^◌, map, Bool, true, false, List, [], ◌∷◌, length, Result, Ok, Err}
 use Rattle.avl_values.specs.Causes.{IsAbove}
 use Rattle.avl_values.specs.Record.{Record}
 use Rattle.layout.specs.Rows.{whole}

@@ -2,6 +2,7 @@
 //! see the list and the medium.
 #![tactic(auto)]
 
+mod device;
 mod index;
 mod keep;
 mod listing;

@@ -6,9 +6,10 @@ ghost use Rattle.medium.specs.State.{EveryImage, IfTold, told};
 ghost use Rattle.record_layout.specs.RecordsOf.{count_of};
 ghost use Rattle.archive_journal.specs.Entries.{IsArchive, entries_of};
 ghost use Rattle.archive_journal.specs.Journal.{IsRun, KeepsEntries};
-ghost use Rattle.shelf.specs.Archive.{IsOnce, list_of};
+ghost use Rattle.shelf.specs.Archive.{IsOnce, devices_of, list_of, places_of};
 ghost use Rattle.shelf.specs.Shelf.{IsAccepted, IsDurable, Leaves};
 
+use crate::device::{count_devices, places};
 use crate::index::Index;
 use crate::keep::{KeepFault, keep};
 use crate::listing::list_all;
@@ -133,6 +134,20 @@ impl<M: Medium> Shelf<M> {
         ensures once { IsOnce self.now.list }
     {
         self.list.as_slice()
+    }
+
+    /// The places of a device's records in the list, rising.
+    pub fn device(&self, imei: Imei) -> Result<Vec<u64>, NoMemory>
+        ensures { IfOk result (λ v. v.items ≡ places_of self.now.list imei) }
+    {
+        places(self.alloc, &self.list, imei)
+    }
+
+    /// How many devices have records.
+    pub fn devices(&self) -> u64
+        ensures { result ≡ devices_of self.now.list }
+    {
+        count_devices(&self.list)
     }
 
     /// How often its medium has failed.

@@ -1,4 +1,4 @@
-use Rattle.std.proofs.Common.{◌≡◌, map, take}
+use Rattle.std.proofs.Common.{◌≡◌, take}
 use Rattle.shelf.specs.Shelf.{recs_of}
 use Rattle.shelf.proofs.keep.copies.Given as goal
 

@@ -1,4 +1,3 @@
-use Rattle.std.proofs.Common.{sym, ap, refl, arith, rules}
 use Rattle.shelf.proofs.Opening.{entry-listed}
 use Rattle.shelf.proofs.listing.list_all.Goals as goal
 

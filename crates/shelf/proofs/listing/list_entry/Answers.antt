@@ -1,6 +1,4 @@
-use Rattle.std.proofs.Common.{take, sym, ap, refl, arith, rules}
-use Rattle.avl_values.specs.Record.{Record}
-use Rattle.shelf.specs.Archive.{admitted}
+use Rattle.std.proofs.Common.{arith}
 use Rattle.shelf.proofs.Opening.{entry-at, record-listed}
 use Rattle.shelf.proofs.listing.list_entry.Goals as goal
 

@@ -1,5 +1,5 @@
 -- The index has the place, or the device doesn't have the record.
-use Rattle.std.proofs.Common.{◌∙◌, sym, ap, refl, arith}
+use Rattle.std.proofs.Common.{refl}
 use Rattle.std.proofs.lemmas.Bool.{false≢true}
 use Rattle.shelf.proofs.Lists.{key-is, none-found, other-found, past-other, read-other, read-some}
 use Rattle.shelf.proofs.staging.find.Goals as goal

@@ -1,9 +1,9 @@
 -- Each record is staged behind the others.
-use Rattle.std.proofs.Common.{◌≡◌, ◌∙◌, ◌<◌, List, ℕ, length, sym, ap, subst, refl, arith, rules}
+use Rattle.std.proofs.Common.{◌∙◌, ◌<◌, List, ℕ, length, sym, ap, subst, arith}
 use Rattle.layout.proofs.Numbers.{are_bytes}
 use Rattle.record_codecs.specs.Views.{records_left}
 use Rattle.record_layout.specs.RecordsOf.{records_of}
-use Rattle.archive_journal.proofs.Packets.{IsWhole, whole-is}
+use Rattle.archive_journal.proofs.Packets.{whole-is}
 use Rattle.shelf.proofs.Stages.{Staging, staging-first, staging-room, staging-more, few-records, count-is}
 use Rattle.shelf.proofs.staging.stage.Goals as goal
 

@@ -1,5 +1,5 @@
 -- The record stands there, or is put last.
-use Rattle.std.proofs.Common.{◌∙◌, ◌++◌, ◌∷◌, [], sym, ap, refl, arith, rules}
+use Rattle.std.proofs.Common.{◌∙◌, ◌++◌, ◌∷◌, [], ap, rules}
 use Rattle.avl_values.specs.Record.{Record}
 use Rattle.shelf.specs.Archive.{StoredValue, stored}
 use Rattle.shelf.proofs.Lists.{key-is, staged-known, staged-kept, staged-more, staged-added, staged-place}

@@ -1,4 +1,4 @@
-use Rattle.std.proofs.Common.{◌∙◌, List, sym, ap, ℕ}
+use Rattle.std.proofs.Common.{◌∙◌, List, ap, ℕ}
 use Rattle.shelf.specs.Index.{Keyed, place_in}
 use Rattle.shelf.proofs.Keys.{plain, find-plain}
 use Rattle.shelf.proofs.index.Index.find.Goals as goal

@@ -1,4 +1,4 @@
-use Rattle.std.proofs.Common.{◌∙◌, List, sym, ap, ℕ, if◌then◌else◌, Some}
+use Rattle.std.proofs.Common.{◌∙◌, List, ap, ℕ, if◌then◌else◌, Some}
 use Rattle.shelf.specs.Index.{Keyed, is_key, place_in}
 use Rattle.shelf.proofs.Keys.{plain, plain_entries, insert-plain}
 use Rattle.shelf.proofs.index.Index.insert.Goals as goal

@@ -1,18 +1,14 @@
 -- Each exit of `admit` leaves what was staged and kept.
-use Rattle.std.proofs.Common.{◌≡◌, true, ◌+◌, ◌-◌, ◌∙◌, ◌<◌, List, ℕ, Result, Ok, Err, length, take, drop, sym, ap, subst, refl, arith, rules}
+use Rattle.std.proofs.Common.{◌≡◌, true, ◌∙◌, Result, Ok, Err, length, sym, ap, subst, refl, arith, rules}
 use Rattle.layout.proofs.Numbers.{are_bytes}
-use Rattle.avl_values.specs.Record.{Record}
-use Rattle.medium.specs.State.{Counted}
 use Rattle.medium.proofs.Images.{counted-as}
 use Rattle.record_layout.specs.RecordsOf.{records_of}
 use Rattle.archive_journal.proofs.Packets.{whole-is}
-use Rattle.shelf.specs.Archive.{fresh, admitted}
 use Rattle.shelf.specs.Kept.{keep_calls}
-use Rattle.shelf.specs.Shelf.{ShelfView, MakesEntry, Leaves, recs_of}
+use Rattle.shelf.specs.Shelf.{ShelfView, MakesEntry, Leaves}
 use Rattle.shelf.specs.declared.receipt.AdmitFault.TheVariants.{MediumFault}
 use Rattle.shelf.specs.declared.keep.KeepFault.{KeepFault}
-use Rattle.shelf.specs.declared.keep.KeepFault.TheVariants as fault
-use Rattle.shelf.proofs.Leaving.{behind, no_more, new-some, cut-is, nothing-staged, shelf-cut, shelf-fell, shelf-kept, shelf-same, leaves-down, leaves-none, leaves-nothing, leaves-kept, leaves-fault}
+use Rattle.shelf.proofs.Leaving.{behind, no_more, new-some, cut-is, nothing-staged, shelf-cut, shelf-fell, shelf-kept, shelf-same, leaves-nothing, leaves-kept, leaves-fault}
 use Rattle.shelf.proofs.Making.{makes-entry, calls-four}
 use Rattle.shelf.proofs.shelf.Shelf.admit.Goals as goal
 

@@ -1,4 +1,4 @@
-use Rattle.std.proofs.Common.{ap, subst}
+use Rattle.std.proofs.Common.{subst}
 use Rattle.shelf.specs.Archive.{IsOnce}
 use Rattle.shelf.specs.Shelf.{ShelfView}
 use Rattle.shelf.proofs.Lists.{complete-once}

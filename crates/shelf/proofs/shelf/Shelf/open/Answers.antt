@@ -1,5 +1,5 @@
 -- The list is that of the entries that were read.
-use Rattle.std.proofs.Common.{◌∙◌, sym, ap, refl, arith, rules}
+use Rattle.std.proofs.Common.{refl}
 use Rattle.shelf.proofs.Opening.{opened-shelf}
 use Rattle.shelf.proofs.Leaving.{durable-shelf}
 use Rattle.shelf.proofs.shelf.Shelf.open.Goals as goal
