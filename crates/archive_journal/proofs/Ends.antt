@@ -161,3 +161,21 @@ found es gate n file s few count =
     let place = s.place in
     let there = s.there in
     record { count = count; bodies_few = omega arith; gate_low = omega arith }
+
+-- what is read after opening
+
+pub empty-read : (o : Option Content) (es : List EntryValue) → IfTold o (IsClosed 8 0) → es ≡ [] → IfTold o (λ c. es ≡ entries_of c.reads)
+empty-read None es is none = tt
+empty-read (Some c) es is none = none ∙ sym (closed-entries 8 0 c is ∙ no_entries is.entries is.count)
+  where
+    no_entries : (fs : List EntryValue) → length fs ≡ 0 → fs ≡ []
+    no_entries [] few = refl
+    no_entries (f ∷ fs) few = absurd (omega arith)
+
+pub taken-read : (o n : Option Content) (file : List ℕ) (es : List EntryValue) → IfTold o (IsDurableFile file) → es ≡ entries_of file → entries_told n ≡ entries_told o → IfTold n (λ c. es ≡ entries_of c.reads)
+taken-read o None file es is read same = tt
+taken-read None (Some d) file es is read same = absurd (let never : Some (entries_of d.reads) ≡ None = same in cc)
+taken-read (Some c) (Some d) file es is read same = read ∙ ap entries_of is.is ∙ sym (some-same (entries_of d.reads) (entries_of c.reads) same)
+  where
+    some-same : (fs gs : List EntryValue) → Some fs ≡ Some gs → fs ≡ gs
+    some-same fs gs both = cc

@@ -49,6 +49,7 @@ impl<M: Medium> Journal<M> {
     pub fn open(alloc: Global, medium: M) -> Result<(Journal<M>, EntryList), (ArchiveFault, M)>
         ensures durable { IfOk result (λ r. IsDurable r.0) }
         ensures entries { IfOk result (λ r. IfTold (M.state medium).content (λ c. r.1 ≡ entries_of c.reads)) }
+        ensures read { IfOk result (λ r. IfTold r.0.medium.content (λ c. r.1 ≡ entries_of c.reads)) }
         ensures bodies { IfOk result (λ r. r.0.bodies ≡ length r.1) }
 
         // It keeps the entries that a power loss might have left, also where it fails.

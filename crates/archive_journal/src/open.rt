@@ -39,6 +39,7 @@ fn start_anew<M: Medium>(alloc: Global, medium: &mut M) -> Result<(Tail, EntryLi
     ensures images { EveryImage (M.state medium.new).content (HoldsWith (IsTold (Some []))) }
     ensures tail { IfOk result (λ r. r.0 ≡ record { gate = 8; bodies = 0 }) }
     ensures entries { IfOk result (λ r. r.1 ≡ []) }
+    ensures read { IfOk result (λ r. IfTold (M.state medium.new).content (λ c. r.1 ≡ entries_of c.reads)) }
     ensures closed { OnOk result (IfTold (M.state medium.new).content (IsClosed 8 0)) }
     ensures no_other { IsErrOf result ArchiveFault.NotArchive → ⊥ }
     ensures run { IsRun (M.state medium.old) (M.state medium.new) (IsErrOf result ArchiveFault.MediumFault) }
@@ -87,6 +88,7 @@ fn take_over<M: Medium>(
     requires durable { IfTold (M.state medium.old).content (IsDurableFile file.now) }
     ensures images { EveryImage (M.state medium.new).content (HoldsWith (IsTold (entries_told (M.state medium.old).content))) }
     ensures entries { IfOk result (λ r. r.1 ≡ entries_of file.now) }
+    ensures read { IfOk result (λ r. IfTold (M.state medium.new).content (λ c. r.1 ≡ entries_of c.reads)) }
     ensures found { IfOk result (λ r. IsFound r.0.gate r.0.bodies r.1) }
     ensures closed { IfOk result (λ r. IfTold (M.state medium.new).content (IsClosed r.0.gate r.0.bodies)) }
     ensures no_other { IsErrOf result ArchiveFault.NotArchive → ⊥ }
@@ -126,6 +128,7 @@ pub fn open_archive<M: Medium>(
     ensures closed { IfOk result (λ r. IfTold (M.state medium.new).content (IsClosed r.0.gate r.0.bodies)) }
     ensures found { IfOk result (λ r. IsFound r.0.gate r.0.bodies r.1) }
     ensures entries { IfOk result (λ r. IfTold (M.state medium.old).content (λ c. r.1 ≡ entries_of c.reads)) }
+    ensures read { IfOk result (λ r. IfTold (M.state medium.new).content (λ c. r.1 ≡ entries_of c.reads)) }
     ensures archive { OnOk result (IfTold (M.state medium.old).content (λ c. IsArchive c.reads)) }
     ensures keeps { EveryImage (M.state medium.new).content (KeepsEntries (M.state medium.old).content) }
     ensures not_archive { IsErrOf result ArchiveFault.NotArchive → IfTold (M.state medium.old).content (λ c. IsArchive c.reads → ⊥) }

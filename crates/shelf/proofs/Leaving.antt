@@ -1,0 +1,257 @@
+-- What each exit of `admit` leaves.
+use Rattle.std.proofs.Common.{◌≡◌, inl, inr, ℕ, ◌-◌, ◌<◌, ◌≤◌, Bool, true, false, if◌then◌else◌, List, [], ◌∷◌, ◌++◌, length, take, drop, map, Option, Some, None, Ok, Err, sym, ◌∙◌, ap, refl, subst, arith, length-append, append_assoc}
+use Rattle.std.proofs.lemmas.List.{append-nil, length-map, take_at, drop_at, take_rest}
+use Rattle.std.proofs.lemmas.Bool.{cases_lt}
+use Rattle.avl_values.specs.Causes.{Rose}
+use Rattle.avl_values.specs.Record.{Record}
+use Rattle.medium.specs.Content.{Content}
+use Rattle.medium.specs.State.{MediumState, IfTold, EveryImage, Counted}
+use Rattle.medium.proofs.Images.{every-map, counted-none}
+use Rattle.record_layout.specs.RecordsOf.{records_of}
+use Rattle.archive_journal.specs.Body.{EntryValue}
+use Rattle.archive_journal.specs.Entries.{entries_of}
+use Rattle.archive_journal.specs.Journal.{JournalView, EachHolds, HoldsWith, IsEither, unchanged, changed, IsTold, entries_told, with_entry}
+use Rattle.archive_journal.specs.Journal as journal
+use Rattle.shelf.specs.Archive.{StoredValue, stored, has, add, admitted, fresh, listed, list_of, ArePlaces, Begins}
+use Rattle.shelf.specs.Index.{Keyed, IsComplete}
+use Rattle.shelf.specs.Shelf.{ShelfView, Lists, IsDurable, HasList, IsShelf, new_entry, calls_for, recs_of, Leaves}
+use Rattle.shelf.specs.declared.receipt.Receipt.{Receipt}
+use Rattle.shelf.specs.declared.receipt.AdmitFault.TheVariants.{Down, NoMemory, MediumFault}
+use Rattle.shelf.proofs.Lists.{complete-front}
+
+-- The list after a packet.
+
+pub admitted-fresh : (list : List StoredValue) (imei : ℕ) (rs : List Record) → admitted list imei rs ≡ list ++ map (stored imei) (fresh list imei rs)
+admitted-fresh list imei [] = sym (append-nil list)
+admitted-fresh list imei (r ∷ rs) = split (has list imei r) (admitted-fresh list imei rs) (admitted-fresh (list ++ stored imei r ∷ []) imei rs)
+  where
+    split : (b : Bool) → admitted list imei rs ≡ list ++ map (stored imei) (fresh list imei rs)
+        → admitted (list ++ stored imei r ∷ []) imei rs ≡ (list ++ stored imei r ∷ []) ++ map (stored imei) (fresh (list ++ stored imei r ∷ []) imei rs)
+        → admitted (if b then list else list ++ stored imei r ∷ []) imei rs ≡ list ++ map (stored imei) (if b then fresh list imei rs else r ∷ fresh (list ++ stored imei r ∷ []) imei rs)
+    split true known new = known
+    split false known new = new ∙ append_assoc list (stored imei r ∷ []) (map (stored imei) (fresh (list ++ stored imei r ∷ []) imei rs))
+
+pub fresh-again : (list : List StoredValue) (imei : ℕ) (rs : List Record) → admitted list imei (fresh list imei rs) ≡ admitted list imei rs
+fresh-again list imei [] = refl
+fresh-again list imei (r ∷ rs) = split (has list imei r) refl (fresh-again list imei rs) (fresh-again (list ++ stored imei r ∷ []) imei rs)
+  where
+    split : (b : Bool) → has list imei r ≡ b → admitted list imei (fresh list imei rs) ≡ admitted list imei rs
+        → admitted (list ++ stored imei r ∷ []) imei (fresh (list ++ stored imei r ∷ []) imei rs) ≡ admitted (list ++ stored imei r ∷ []) imei rs
+        → admitted list imei (if has list imei r then fresh list imei rs else r ∷ fresh (list ++ stored imei r ∷ []) imei rs) ≡ admitted (if has list imei r then list else list ++ stored imei r ∷ []) imei rs
+    split true is known new =
+        let P : Bool → Type 0 = λ b. admitted list imei (if b then fresh list imei rs else r ∷ fresh (list ++ stored imei r ∷ []) imei rs) ≡ admitted (if b then list else list ++ stored imei r ∷ []) imei rs in
+        subst P (sym is) known
+    split false is known new =
+        let P : Bool → Type 0 = λ b. admitted list imei (if b then fresh list imei rs else r ∷ fresh (list ++ stored imei r ∷ []) imei rs) ≡ admitted (if b then list else list ++ stored imei r ∷ []) imei rs in
+        let here : add list imei r ≡ list ++ stored imei r ∷ [] = ap (λ b. if b then list else list ++ stored imei r ∷ []) is in
+        subst P (sym is) (ap (λ (l : List StoredValue). admitted l imei (fresh (list ++ stored imei r ∷ []) imei rs)) here ∙ new)
+
+pub listed-more : (list : List StoredValue) (es : List EntryValue) (e : EntryValue) → listed list (es ++ e ∷ []) ≡ admitted (listed list es) e.imei e.records
+listed-more list [] e = refl
+listed-more list (f ∷ es) e = listed-more (admitted list f.imei f.records) es e
+
+recs-again : (imei : ℕ) (rs : List Record) → recs_of (map (stored imei) rs) ≡ rs
+recs-again imei [] = refl
+recs-again imei (r ∷ rs) = ap (λ (l : List Record). r ∷ l) (recs-again imei rs)
+
+pub behind : (list staged : List StoredValue) (known : ℕ) (imei : ℕ) (rs : List Record) → known ≡ length list → staged ≡ admitted list imei rs → recs_of (take (length staged - known) (drop known staged)) ≡ fresh list imei rs
+behind list staged known imei rs at is =
+    let new = fresh list imei rs in
+    let all : staged ≡ list ++ map (stored imei) new = is ∙ admitted-fresh list imei rs in
+    ap recs_of (take_rest staged known ∙ ap (drop known) all ∙ drop_at list (map (stored imei) new) known (sym at)) ∙ recs-again imei new
+
+pub no_more : (list staged : List StoredValue) (imei : ℕ) (rs : List Record) → length staged ≡ length list → staged ≡ admitted list imei rs → fresh list imei rs ≡ []
+no_more list staged imei rs same is =
+    let new = fresh list imei rs in
+    let all = ap length (is ∙ admitted-fresh list imei rs) in
+    empty new (omega (arith, length-append list (map (stored imei) new), length-map new (stored imei)))
+  where
+    empty : (xs : List Record) → length xs ≡ 0 → xs ≡ []
+    empty [] none = refl
+    empty (x ∷ xs) none = absurd (omega arith)
+
+pub cut-is : (list staged cut : List StoredValue) (known : ℕ) → Begins list staged → known ≡ length list → cut ≡ take known staged → cut ≡ list
+cut-is list staged cut known b at is = is ∙ ap (take known) b.is ∙ take_at list b.more known (sym at)
+
+pub begins-cut : (list staged cut : List StoredValue) → Begins list staged → cut ≡ list → Begins cut staged
+begins-cut list staged cut b is = record { more = b.more; is = b.is ∙ ap (λ (l : List StoredValue). l ++ b.more) (sym is) }
+
+pub complete-cut : (cut staged : List StoredValue) (index : List (Keyed × ℕ)) → Begins cut staged → IsComplete staged index → IsComplete cut index
+complete-cut cut staged index b is = let P : List StoredValue → Type 0 = λ l. IsComplete l index in complete-front cut b.more index (subst P b.is is)
+
+-- The images of a journal.
+
+some-entries : (es fs : List EntryValue) → Some es ≡ Some fs → es ≡ fs
+some-entries es fs is = cc
+
+pub lists-images : (j : JournalView) (list : List StoredValue) → journal.IsDurable j → IfTold j.medium.content (HasList list) → EachHolds j.medium (Lists list)
+lists-images j list durable has_list = images j.medium.content durable.same has_list
+  where
+    images : (o : Option Content) → EveryImage o (HoldsWith (IsTold (entries_told o))) → IfTold o (HasList list) → EveryImage o (HoldsWith (Lists list))
+    images None every is = tt
+    images (Some c) every is = λ image im.
+        let held = every image im in
+        record { archive = held.archive; holds = record { is = ap list_of (sym (some-entries (entries_of c.reads) (entries_of image) held.holds.is)) ∙ is.is } }
+
+pub lists-more : (o n : Option Content) (list : List StoredValue) (e : EntryValue) → IfTold o (HasList list) → entries_told n ≡ with_entry e (entries_told o) → IfTold n (HasList (admitted list e.imei e.records))
+lists-more o None list e is more = tt
+lists-more None (Some d) list e is more = absurd (let never : Some (entries_of d.reads) ≡ None = more in cc)
+lists-more (Some c) (Some d) list e is more = record {
+  is = ap list_of (some-entries (entries_of d.reads) (entries_of c.reads ++ e ∷ []) more) ∙ listed-more [] (entries_of c.reads) e ∙ ap (λ (l : List StoredValue). admitted l e.imei e.records) is.is;
+}
+
+pub lists-same : (o n : Option Content) (list : List StoredValue) → n ≡ o → IfTold o (HasList list) → IfTold n (HasList list)
+lists-same o n list same is = let P : Option Content → Type 0 = λ c. IfTold c (HasList list) in subst P (sym same) is
+
+pub images-unchanged : (j : JournalView) (more : Option (List EntryValue)) → journal.IsDurable j → EachHolds j.medium (IsEither (entries_told j.medium.content) more)
+images-unchanged j more durable = every-map j.medium.content _ _ (λ image held. record { archive = held.archive; holds = unchanged held.holds.is }) durable.same
+
+-- The exits.
+
+abbrev pub view : MediumState → List StoredValue → Bool → ℕ → ShelfView
+view m list down opened = record { medium = m; list = list; down = down; opened = opened }
+
+pub durable-shelf : (j : JournalView) (list : List StoredValue) (places : List (Keyed × ℕ)) (down : Bool) (opened : ℕ) → IsShelf j list places down opened → down ≡ false → IsDurable (view j.medium list down opened)
+durable-shelf j list places down opened is up = record { up = up; same = lists-images j list (is.up up) (is.lists up) }
+
+-- nothing was kept, and the list is as it was
+pub shelf-cut : (j k : JournalView) (list staged cut : List StoredValue) (places later : List (Keyed × ℕ)) (down : Bool) (opened : ℕ) → IsShelf j list places down opened → down ≡ false
+    → Begins list staged → IsComplete staged later → cut ≡ list → journal.IsDurable k → k.medium.content ≡ j.medium.content → j.medium.faults ≤ k.medium.faults
+    → IsShelf k cut later down opened
+shelf-cut j k list staged cut places later down opened is up b complete same durable content faults =
+    let P : List StoredValue → Type 0 = λ l. IfTold k.medium.content (HasList l) in
+    let opened_low = is.later in
+    record {
+      up = λ _. durable;
+      lists = λ _. subst P (sym same) (lists-same j.medium.content k.medium.content list content (is.lists up));
+      index = complete-cut cut staged later (begins-cut list staged cut b same) complete;
+      later = omega arith;
+      fell = λ fallen. absurd (let never : false ≡ true = sym up ∙ fallen in cc);
+    }
+
+-- a medium fault took it down
+pub shelf-fell : (j k : JournalView) (list staged cut : List StoredValue) (places later : List (Keyed × ℕ)) (down : Bool) (opened : ℕ) → IsShelf j list places down opened
+    → Begins list staged → IsComplete staged later → cut ≡ list → j.medium.faults ≤ k.medium.faults → Rose j.medium.faults k.medium.faults
+    → IsShelf k cut later true opened
+shelf-fell j k list staged cut places later down opened is b complete same faults rose =
+    let opened_low = is.later in
+    record {
+      up = λ up. absurd (let never : false ≡ true = sym up in cc);
+      lists = λ up. absurd (let never : false ≡ true = sym up in cc);
+      index = complete-cut cut staged later (begins-cut list staged cut b same) complete;
+      later = omega arith;
+      fell = λ _. omega arith;
+    }
+
+-- an entry was kept
+pub shelf-kept : (j k : JournalView) (list staged : List StoredValue) (places later : List (Keyed × ℕ)) (down : Bool) (opened imei : ℕ) (rs new : List Record) → IsShelf j list places down opened → down ≡ false
+    → IsComplete staged later → staged ≡ admitted list imei rs → new ≡ fresh list imei rs → entries_told k.medium.content ≡ with_entry (record { imei = imei; records = new }) (entries_told j.medium.content)
+    → journal.IsDurable k → j.medium.faults ≤ k.medium.faults → IsShelf k staged later down opened
+shelf-kept j k list staged places later down opened imei rs new is up complete staged_is new_is entries durable faults =
+    let opened_low = is.later in
+    let P : List StoredValue → Type 0 = λ l. IfTold k.medium.content (HasList l) in
+    let all : admitted list imei new ≡ staged = ap (λ (l : List Record). admitted list imei l) new_is ∙ fresh-again list imei rs ∙ sym staged_is in
+    record {
+      up = λ _. durable;
+      lists = λ _. subst P all (lists-more j.medium.content k.medium.content list (record { imei = imei; records = new }) (is.lists up) entries);
+      index = complete;
+      later = omega arith;
+      fell = λ fallen. absurd (let never : false ≡ true = sym up ∙ fallen in cc);
+    }
+
+-- the packet has nothing new
+pub shelf-same : (j : JournalView) (list staged : List StoredValue) (places later : List (Keyed × ℕ)) (down : Bool) (opened : ℕ) → IsShelf j list places down opened → IsComplete staged later → staged ≡ list
+    → IsShelf j staged later down opened
+shelf-same j list staged places later down opened is complete same =
+    let P : List StoredValue → Type 0 = λ l. IfTold j.medium.content (HasList l) in
+    record { up = is.up; lists = λ up. subst P (sym same) (is.lists up); index = complete; later = is.later; fell = is.fell }
+
+pub nothing-staged : (list staged : List StoredValue) (imei : ℕ) (rs : List Record) → length staged ≡ length list → staged ≡ admitted list imei rs → staged ≡ list
+nothing-staged list staged imei rs same is =
+    is ∙ admitted-fresh list imei rs ∙ ap (λ (l : List Record). list ++ map (stored imei) l) (no_more list staged imei rs same is) ∙ append-nil list
+
+module _ (j : JournalView) (list : List StoredValue) (places : List (Keyed × ℕ)) (down : Bool) (opened imei : ℕ) (body : List ℕ) (is : IsShelf j list places down opened) where
+  pub leaves-down : (faults : ℕ) → down ≡ true → faults ≡ j.medium.faults → Leaves (view j.medium list down opened) imei body (Err (Down faults)) (view j.medium list down opened)
+  leaves-down faults fallen count = record {
+    admits = record { list = refl; down = refl; fits = fallen; counts = (count, refl) };
+    opened = refl;
+    durable = λ up. absurd (let never : false ≡ true = sym up ∙ fallen in cc);
+    fell = is.fell;
+    images = λ up. absurd (let never : false ≡ true = sym up ∙ fallen in cc);
+    untouched = λ _. refl;
+    counted = counted-none j.medium;
+  }
+
+  module _ (up : down ≡ false) (k : JournalView) (later : List (Keyed × ℕ)) where
+    never_down : {P : Type 0} → down ≡ true → P
+    never_down fallen = absurd (let never : false ≡ true = sym up ∙ fallen in cc)
+
+    pub leaves-none : (cut : List StoredValue) → cut ≡ list → IsShelf k cut later down opened → k.medium.content ≡ j.medium.content → Counted 0 j.medium k.medium ⊥
+        → Leaves (view j.medium list down opened) imei body (Err NoMemory) (view k.medium cut down opened)
+    leaves-none cut same after content counted =
+        let P : Option Content → Type 0 = λ o. EveryImage o (HoldsWith (IsEither (entries_told j.medium.content) (with_entry (new_entry list imei (records_of body)) (entries_told j.medium.content)))) in
+        record {
+          admits = record { list = same; down = refl; fits = up; counts = counted.later };
+          opened = refl;
+          durable = durable-shelf k cut later down opened after;
+          fell = after.fell;
+          images = λ _. subst P (sym content) (images-unchanged j _ (is.up up));
+          untouched = never_down;
+          counted = counted;
+        }
+
+    pub leaves-nothing : (staged : List StoredValue) (receipt : Receipt) → staged ≡ admitted list imei (records_of body) → ArePlaces staged imei (records_of body) receipt.places.items
+        → IsShelf j staged later down opened → fresh list imei (records_of body) ≡ [] → Leaves (view j.medium list down opened) imei body (Ok receipt) (view j.medium staged down opened)
+    leaves-nothing staged receipt staged_is placed after none =
+        let P : List StoredValue → Type 0 = λ l. ArePlaces l imei (records_of body) receipt.places.items in
+        let Q : List Record → Type 0 = λ l. Counted (calls_for l) j.medium j.medium ⊥ in
+        record {
+          admits = record { list = staged_is; down = refl; fits = (up, subst P staged_is placed); counts = omega arith };
+          opened = refl;
+          durable = durable-shelf j staged later down opened after;
+          fell = after.fell;
+          images = λ _. images-unchanged j _ (is.up up);
+          untouched = never_down;
+          counted = subst Q (sym none) (counted-none j.medium);
+        }
+
+    pub leaves-kept : (staged : List StoredValue) (receipt : Receipt) (new : List Record) → staged ≡ admitted list imei (records_of body) → ArePlaces staged imei (records_of body) receipt.places.items
+        → IsShelf k staged later down opened → new ≡ fresh list imei (records_of body) → calls_for (fresh list imei (records_of body)) ≡ 4
+        → EachHolds k.medium (IsEither (entries_told j.medium.content) (with_entry (record { imei = imei; records = new }) (entries_told j.medium.content)))
+        → Counted 4 j.medium k.medium ⊥ → Leaves (view j.medium list down opened) imei body (Ok receipt) (view k.medium staged down opened)
+    leaves-kept staged receipt new staged_is placed after new_is four images counted =
+        let P : List StoredValue → Type 0 = λ l. ArePlaces l imei (records_of body) receipt.places.items in
+        let Q : ℕ → Type 0 = λ n. Counted n j.medium k.medium ⊥ in
+        let R : List Record → Type 0 = λ l. EachHolds k.medium (IsEither (entries_told j.medium.content) (with_entry (record { imei = imei; records = l }) (entries_told j.medium.content))) in
+        record {
+          admits = record { list = staged_is; down = refl; fits = (up, subst P staged_is placed); counts = counted.later };
+          opened = refl;
+          durable = durable-shelf k staged later down opened after;
+          fell = after.fell;
+          images = λ _. subst R new_is images;
+          untouched = never_down;
+          counted = subst Q (sym four) counted;
+        }
+
+    pub leaves-fault : (cut : List StoredValue) (new : List Record) (faults : ℕ) → cut ≡ list → IsShelf k cut later true opened → new ≡ fresh list imei (records_of body) → faults ≡ k.medium.faults
+        → EachHolds k.medium (IsEither (entries_told j.medium.content) (with_entry (record { imei = imei; records = new }) (entries_told j.medium.content)))
+        → Counted 4 j.medium k.medium (Unit {0}) → Leaves (view j.medium list down opened) imei body (Err (MediumFault faults)) (view k.medium cut true opened)
+    leaves-fault cut new faults same after new_is count images counted =
+        let R : List Record → Type 0 = λ l. EachHolds k.medium (IsEither (entries_told j.medium.content) (with_entry (record { imei = imei; records = l }) (entries_told j.medium.content))) in
+        record {
+          admits = record { list = same; down = refl; fits = up; counts = (count, counted.later, counted.cause tt) };
+          opened = refl;
+          durable = λ risen. absurd (let never : false ≡ true = sym risen in cc);
+          fell = after.fell;
+          images = λ _. subst R new_is images;
+          untouched = never_down;
+          counted = counted;
+        }
+
+-- something is new where the list has grown
+pub new-some : (list staged : List StoredValue) (imei : ℕ) (rs : List Record) → staged ≡ admitted list imei rs → (length staged ≡ length list → ⊥) → 0 < length (fresh list imei rs)
+new-some list staged imei rs is grown =
+    let all = ap length (is ∙ admitted-fresh list imei rs) in
+    let sum = length-append list (map (stored imei) (fresh list imei rs)) in
+    let size = length-map (fresh list imei rs) (stored imei) in
+    elim (cases_lt 0 (length (fresh list imei rs))) as (λ _. 0 < length (fresh list imei rs)) [ inl some ↦ some | inr none ↦ absurd (grown (omega arith)) ]

@@ -1,0 +1,7 @@
+pub mod Keys
+pub mod Lists
+pub mod Stages
+pub mod Leaving
+pub mod Making
+pub mod Opening
+pub mod Devices

@@ -1,0 +1,84 @@
+-- The record list of an archive: each record of a device once, at its first place (this project's own).
+use Rattle.std.specs.Prelude.{◌≡◌, ℕ, ◌+◌, ◌==◌, ◌&&◌, ◌||◌, nat_eq, if◌then◌else◌, Bool, false, List, [], ◌∷◌, ◌++◌, slice_get, Some}
+use Rattle.std.specs.Cmp.Lexicographic.{pointwise}
+use Rattle.avl_values.specs.Codec.{is_codec}
+use Rattle.avl_values.specs.Record.{Record}
+use Rattle.archive_journal.specs.Body.{EntryValue}
+
+-- a record of a device
+pub record StoredValue : Type 0 where
+  pub imei : ℕ
+  pub rec : Record
+
+abbrev pub stored : ℕ → Record → StoredValue
+stored imei r = record { imei = imei; rec = r }
+
+-- two records are one where codec and bytes are the same
+abbrev pub is_record : Record → Record → Bool
+is_record a b = is_codec a.codec b.codec && pointwise nat_eq a.bytes b.bytes
+
+-- this device has this record
+abbrev pub has : List StoredValue → ℕ → Record → Bool
+has [] imei r = false
+has (s ∷ list) imei r = ((s.imei == imei) && is_record s.rec r) || has list imei r
+
+-- a record added at the end, unless its device has it
+abbrev pub add : List StoredValue → ℕ → Record → List StoredValue
+add list imei r = if has list imei r then list else list ++ stored imei r ∷ []
+
+-- the records of a packet added in turn
+abbrev pub admitted : List StoredValue → ℕ → List Record → List StoredValue
+admitted list imei [] = list
+admitted list imei (r ∷ rs) = admitted (add list imei r) imei rs
+
+-- those that the device doesn't have yet, each once
+abbrev pub fresh : List StoredValue → ℕ → List Record → List Record
+fresh list imei [] = []
+fresh list imei (r ∷ rs) = if has list imei r then fresh list imei rs else r ∷ fresh (list ++ stored imei r ∷ []) imei rs
+
+-- the records of entries added in turn
+abbrev pub listed : List StoredValue → List EntryValue → List StoredValue
+listed list [] = list
+listed list (e ∷ es) = listed (admitted list e.imei e.records) es
+
+-- the record list of an archive's entries
+abbrev pub list_of : List EntryValue → List StoredValue
+list_of es = listed [] es
+
+-- each of these records of a device stands at its place
+abbrev pub ArePlaces : List StoredValue → ℕ → List Record → List ℕ → Type 0
+ArePlaces list imei [] [] = Unit {0}
+ArePlaces list imei [] (p ∷ ps) = ⊥
+ArePlaces list imei (r ∷ rs) [] = ⊥
+ArePlaces list imei (r ∷ rs) (p ∷ ps) = (slice_get list p ≡ Some (stored imei r)) × ArePlaces list imei rs ps
+
+-- no record of a device stands twice
+abbrev pub IsOnce : List StoredValue → Type 0
+IsOnce list = (p q : ℕ) (s : StoredValue) → slice_get list p ≡ Some s → slice_get list q ≡ Some s → p ≡ q
+
+-- a list with some more behind it
+pub record Begins (old new : List StoredValue) : Type 0 where
+  pub more : List StoredValue
+  pub is : new ≡ old ++ more
+
+-- the places of a device's records, rising, the list's first place being the given one
+abbrev pub places_from : ℕ → List StoredValue → ℕ → List ℕ
+places_from k [] imei = []
+places_from k (s ∷ list) imei = if s.imei == imei then k ∷ places_from (k + 1) list imei else places_from (k + 1) list imei
+
+abbrev pub places_of : List StoredValue → ℕ → List ℕ
+places_of list imei = places_from 0 list imei
+
+-- a record of this device is listed
+abbrev pub has_device : List StoredValue → ℕ → Bool
+has_device [] imei = false
+has_device (s ∷ list) imei = (s.imei == imei) || has_device list imei
+
+-- how many devices come for the first time behind these records
+abbrev pub devices_after : List StoredValue → List StoredValue → ℕ
+devices_after seen [] = 0
+devices_after seen (s ∷ list) = (if has_device seen s.imei then 0 else 1) + devices_after (seen ++ s ∷ []) list
+
+-- how many devices have records
+abbrev pub devices_of : List StoredValue → ℕ
+devices_of list = devices_after [] list

@@ -1,0 +1,6 @@
+pub mod Archive
+pub mod Admits
+pub mod Calls
+pub mod Index
+pub mod Kept
+pub mod Shelf

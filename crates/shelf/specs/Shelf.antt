@@ -1,0 +1,103 @@
+-- What contracts see of a shelf, and what a power loss may leave of it, said of its record list.
+use Rattle.std.specs.Prelude.{◌≡◌, ℕ, ◌≤◌, ◌^◌, map, Bool, true, false, List, [], ◌∷◌, length, Result, Ok, Err}
+use Rattle.avl_values.specs.Causes.{IsAbove}
+use Rattle.avl_values.specs.Record.{Record}
+use Rattle.layout.specs.Rows.{whole}
+use Rattle.medium.specs.Content.{Content}
+use Rattle.medium.specs.State.{MediumState, IfTold, Counted}
+use Rattle.record_layout.specs.PacketRows.{packet_verdict}
+use Rattle.record_layout.specs.RecordsOf.{records_of}
+use Rattle.record_layout.specs.declared.head.PacketHead.{PacketHead}
+use Rattle.archive_journal.specs.Body.{EntryValue, joined}
+use Rattle.archive_journal.specs.Entry.{IsEntry}
+use Rattle.avl_values.specs.declared.codec.Codec.{Codec}
+use Rattle.archive_journal.specs.Entries.{entries_of}
+use Rattle.archive_journal.specs.Journal.{JournalView, EachHolds, IsEither, entries_told, with_entry}
+use Rattle.archive_journal.specs.Journal as journal
+use Rattle.shelf.specs.Archive.{StoredValue, fresh, list_of}
+use Rattle.shelf.specs.Admits.{Shelved, Answer, answer_of, Admits}
+use Rattle.shelf.specs.Index.{Keyed, IsComplete}
+use Rattle.shelf.specs.declared.receipt.Receipt.{Receipt}
+use Rattle.shelf.specs.declared.receipt.AdmitFault.{AdmitFault}
+use Rattle.shelf.specs.declared.receipt.AdmitFault.TheVariants.{Down, NoMemory, MediumFault}
+
+-- What contracts see: the medium, the record list, whether a medium fault took the shelf down, and the medium's count of faults
+-- when it was opened.
+pub record ShelfView : Type 0 where
+  pub medium : MediumState
+  pub list : List StoredValue
+  pub down : Bool
+  pub opened : ℕ
+
+-- as plain data
+abbrev pub front : ShelfView → Shelved
+front v = record { list = v.list; down = v.down; faults = v.medium.faults }
+
+-- these entries have this record list
+pub record Lists (list : List StoredValue) (es : List EntryValue) : Type 0 where
+  pub is : list_of es ≡ list
+
+-- The shelf is up, and a power loss leaves an archive with its record list.
+pub record IsDurable (v : ShelfView) : Type 0 where
+  pub up : v.down ≡ false
+  pub same : EachHolds v.medium (Lists v.list)
+
+-- What is read has this record list.
+pub record HasList (list : List StoredValue) (c : Content) : Type 0 where
+  pub is : list_of (entries_of c.reads) ≡ list
+
+-- what is true of each shelf
+pub record IsShelf (j : JournalView) (list : List StoredValue) (places : List (Keyed × ℕ)) (down : Bool) (opened : ℕ) : Type 0 where
+  pub up : down ≡ false → journal.IsDurable j
+  pub lists : down ≡ false → IfTold j.medium.content (HasList list)
+  pub index : IsComplete list places
+  pub later : opened ≤ j.medium.faults
+  pub fell : down ≡ true → IsAbove j.medium.faults opened
+
+-- a body that `read_packet` accepts
+pub record IsAccepted (body : List ℕ) : Type 0 where
+  pub head : PacketHead
+  pub is : packet_verdict (length body) body ≡ whole head (length body)
+
+-- the records of a list
+abbrev pub recs_of : List StoredValue → List Record
+recs_of list = map (λ s. s.rec) list
+
+-- records of one codec that can make an entry
+pub record MakesEntry (records : List Record) : Type 0 where
+  pub codec : Codec
+  pub is : IsEntry codec records
+  pub few : length (joined records) ≤ 2 ^ 31
+
+-- the entry that a call appends
+abbrev pub new_entry : List StoredValue → ℕ → List Record → EntryValue
+new_entry list imei records = record { imei = imei; records = fresh list imei records }
+
+-- four where there is something to append
+abbrev pub calls_for : List Record → ℕ
+calls_for [] = 0
+calls_for (r ∷ rs) = 4
+
+-- how many calls of the medium a call of `admit` makes: none where it has nothing to append, or is refused before
+abbrev pub admit_calls : List Record → Answer → ℕ
+admit_calls new (Ok places) = calls_for new
+admit_calls new (Err (Down faults)) = 0
+admit_calls new (Err NoMemory) = 0
+admit_calls new (Err (MediumFault faults)) = 4
+
+abbrev pub IsMediumFault : Answer → Type 0
+IsMediumFault (Ok places) = ⊥
+IsMediumFault (Err (Down faults)) = ⊥
+IsMediumFault (Err NoMemory) = ⊥
+IsMediumFault (Err (MediumFault faults)) = Unit {0}
+
+-- What a call of a shelf's `admit` leaves. At every exit, and so at each moment of the call, a power loss leaves the entries
+-- before, or those with one entry of the new records behind them.
+pub record Leaves (old : ShelfView) (imei : ℕ) (body : List ℕ) (result : Result Receipt AdmitFault) (new : ShelfView) : Type 0 where
+  pub admits : Admits (front old) imei (records_of body) (answer_of result) (front new)
+  pub opened : new.opened ≡ old.opened
+  pub durable : new.down ≡ false → IsDurable new
+  pub fell : new.down ≡ true → IsAbove new.medium.faults new.opened
+  pub images : old.down ≡ false → EachHolds new.medium (IsEither (entries_told old.medium.content) (with_entry (new_entry old.list imei (records_of body)) (entries_told old.medium.content)))
+  pub untouched : old.down ≡ true → new.medium ≡ old.medium
+  pub counted : Counted (admit_calls (fresh old.list imei (records_of body)) (answer_of result)) old.medium new.medium (IsMediumFault (answer_of result))

@@ -1,0 +1,16 @@
+//! A server's archive: each record of a device once, in a list beside the journal that keeps it over a power loss. Contracts
+//! see the list and the medium.
+#![tactic(auto)]
+
+mod device;
+mod index;
+mod keep;
+mod listing;
+mod receipt;
+mod shelf;
+mod staging;
+mod stored;
+
+pub use receipt::{Admit, AdmitFault, Receipt};
+pub use shelf::Shelf;
+pub use stored::Stored;

@@ -1,0 +1,196 @@
+ghost use Rattle.std.specs.Prelude.{◌≡◌, ◌≤◌, ◌^◌, true, false, length, IfOk, IfErr, OnOk};
+ghost use Rattle.avl_values.specs.Causes.{IsAbove};
+ghost use Rattle.medium.specs.CallsLeft.{after, unlimited};
+ghost use Rattle.medium.specs.Content.{after_sync};
+ghost use Rattle.medium.specs.State.{EveryImage, IfTold, told};
+ghost use Rattle.record_layout.specs.RecordsOf.{count_of};
+ghost use Rattle.archive_journal.specs.Entries.{IsArchive, entries_of};
+ghost use Rattle.archive_journal.specs.Journal.{IsRun, KeepsEntries};
+ghost use Rattle.shelf.specs.Archive.{IsOnce, devices_of, list_of, places_of};
+ghost use Rattle.shelf.specs.Shelf.{IsAccepted, IsDurable, Leaves};
+
+use crate::device::{count_devices, places};
+use crate::index::Index;
+use crate::keep::{KeepFault, keep};
+use crate::listing::list_all;
+use crate::receipt::{Admit, AdmitFault, Receipt};
+use crate::staging::stage;
+use crate::stored::Stored;
+use archive_journal::{ArchiveFault, Journal};
+use avl_values::{Imei, NoMemory};
+use medium::{Bench, Medium, Tear};
+use std::alloc::Global;
+use std::marker::Model;
+
+/// A server's archive on a medium: each record of a device once, at its first place.
+///
+/// A packet that was admitted with a receipt has all its records in every image that a power loss may leave. After a call that
+/// answered MediumFault the shelf is down: take the medium, and open it again.
+#[derive(Drop)]
+pub struct Shelf<M: Medium> {
+    journal: Journal<M>,
+    list: Vec<Stored>,
+    index: Index,
+    down: bool,
+    opened: u64,
+    alloc: Global,
+}
+
+impl<M: Medium> Model for Shelf<M> {
+    ghost use Rattle.shelf.specs.Shelf.{ShelfView, IsShelf};
+
+    ghost Value = { ShelfView };
+
+    ghost view = { λ s. record { medium = s.journal.medium; list = s.list.items; down = s.down; opened = s.opened } };
+
+    ghost invariant = { λ s. IsShelf s.journal s.list.items s.index s.down s.opened };
+}
+
+impl<M: Medium> Shelf<M> {
+    /// Opens a medium that a power loss may have left. A file of at most nine bytes that is no archive is made anew.
+    pub fn open(alloc: Global, medium: M) -> Result<Shelf<M>, (ArchiveFault, M)>
+        ensures durable { IfOk result IsDurable }
+        ensures list { IfOk result (λ s. IfTold (M.state medium).content (λ c. s.list ≡ list_of (entries_of c.reads))) }
+        ensures opened { IfOk result (λ s. s.opened ≡ s.medium.faults) }
+
+        // It keeps the entries that a power loss might have left, also where it fails.
+        ensures keeps { IfOk result (λ s. EveryImage s.medium.content (KeepsEntries (M.state medium).content)) }
+        ensures keeps_err { IfErr result (λ e. EveryImage (M.state e.1).content (KeepsEntries (M.state medium).content)) }
+
+        ensures archive { OnOk result (IfTold (M.state medium).content (λ c. IsArchive c.reads)) }
+        ensures not_archive { IfErr result (λ e. e.0 ≡ ArchiveFault.NotArchive → IfTold (M.state medium).content (λ c. IsArchive c.reads → ⊥)) }
+        ensures not_written { IfErr result (λ e. e.0 ≡ ArchiveFault.NotArchive → (M.state e.1).content ≡ told after_sync (M.state medium).content) }
+
+        ensures run { IfOk result (λ s. IsRun (M.state medium) s.medium ⊥) }
+        ensures run_err { IfErr result (λ e. IsRun (M.state medium) (M.state e.1) (e.0 ≡ ArchiveFault.MediumFault)) }
+    {
+        match Journal::open(alloc, medium) {
+            Err((fault, medium)) => Err((fault, medium)),
+            Ok((journal, entries)) => {
+                let mut list = Vec::new(alloc);
+                let mut index = Index::new(alloc);
+                match list_all(alloc, &mut list, &mut index, &entries) {
+                    Err(NoMemory) => Err((ArchiveFault::NoMemory, journal.into_medium())),
+                    Ok(()) => {
+                        let opened = journal.faults();
+                        Ok(Shelf {
+                            journal,
+                            list,
+                            index,
+                            down: false,
+                            opened,
+                            alloc,
+                        })
+                    }
+                }
+            }
+        }
+    }
+
+    /// Admits the records of a data body for a device: those that it doesn't have yet, each once, are appended as one entry, by
+    /// four calls of the medium. Where there are none it makes no call of the medium.
+    pub fn admit(&mut self, imei: Imei, body: &[u8]) -> Result<Receipt, AdmitFault>
+        requires few { length body.now ≤ 2 ^ 31 }
+        requires accepted { IsAccepted body.now }
+        ensures leaves { Leaves self.old imei body.now result self.new }
+        ensures receipt { IfOk result (λ r. r.count ≡ count_of body.now) }
+    {
+        if self.down {
+            return Err(AdmitFault::Down {
+                faults: self.journal.faults(),
+            });
+        }
+        let known = self.list.len();
+        match stage(self.alloc, &mut self.list, &mut self.index, imei, body) {
+            Err(NoMemory) => {
+                self.list.truncate(known);
+                Err(AdmitFault::NoMemory)
+            }
+            Ok(receipt) => {
+                if self.list.len() == known {
+                    return Ok(receipt);
+                }
+                match keep(self.alloc, &mut self.journal, imei, &self.list[known..]) {
+                    Ok(()) => Ok(receipt),
+                    Err(KeepFault::NoMemory) => {
+                        self.list.truncate(known);
+                        Err(AdmitFault::NoMemory)
+                    }
+                    Err(KeepFault::MediumFault) => {
+                        self.list.truncate(known);
+                        self.down = true;
+                        Err(AdmitFault::MediumFault {
+                            faults: self.journal.faults(),
+                        })
+                    }
+                }
+            }
+        }
+    }
+
+    /// The record list.
+    pub fn list(&self) -> &[Stored]
+        ensures value { result.now ≡ self.now.list }
+        ensures once { IsOnce self.now.list }
+    {
+        self.list.as_slice()
+    }
+
+    /// The places of a device's records in the list, rising.
+    pub fn device(&self, imei: Imei) -> Result<Vec<u64>, NoMemory>
+        ensures { IfOk result (λ v. v.items ≡ places_of self.now.list imei) }
+    {
+        places(self.alloc, &self.list, imei)
+    }
+
+    /// How many devices have records.
+    pub fn devices(&self) -> u64
+        ensures { result ≡ devices_of self.now.list }
+    {
+        count_devices(&self.list)
+    }
+
+    /// How often its medium has failed.
+    pub fn faults(&self) -> u64
+        ensures { result ≡ self.now.medium.faults }
+    {
+        self.journal.faults()
+    }
+
+    /// Whether an earlier call answered MediumFault.
+    pub fn is_down(&self) -> bool
+        ensures value { result ≡ self.now.down }
+        ensures durable { self.now.down ≡ false → IsDurable self.now }
+        ensures fell { self.now.down ≡ true → IsAbove self.now.medium.faults self.now.opened }
+    {
+        self.down
+    }
+
+    /// The medium, also of a shelf that is down.
+    pub fn into_medium(self) -> M
+        ensures { M.state result ≡ self.medium }
+    {
+        let Shelf { journal, .. } = self;
+        journal.into_medium()
+    }
+
+    /// Arms the shelf's bench.
+    pub fn arm(&mut self, calls: u64, tear: Tear)
+    where
+        M: Bench,
+        requires { self.old.medium.left ≡ unlimited }
+        ensures { self.new ≡ record self.old { medium = record self.old.medium { left = after calls } } }
+    {
+        self.journal.arm(calls, tear);
+    }
+}
+
+impl<M: Medium> Admit for Shelf<M> {
+    ghost use Rattle.shelf.specs.Shelf.{Leaves as ShelfLeaves};
+
+    ghost leaves = { ShelfLeaves };
+
+    fn admit(&mut self, imei: Imei, body: &[u8]) -> Result<Receipt, AdmitFault> {
+        Shelf::admit(self, imei, body)
+    }
+}
