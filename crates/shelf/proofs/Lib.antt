@@ -4,4 +4,5 @@ pub mod Stages
 pub mod Leaving
 pub mod Making
 pub mod Opening
-pub mod Devices
+pub mod Heads
+pub mod Counting

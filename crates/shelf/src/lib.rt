@@ -3,6 +3,7 @@
 #![tactic(auto)]
 
 mod device;
+mod devices;
 mod index;
 mod keep;
 mod listing;

@@ -9,7 +9,8 @@ ghost use Rattle.archive_journal.specs.Journal.{IsRun, KeepsEntries};
 ghost use Rattle.shelf.specs.Archive.{IsOnce, devices_of, list_of, places_of};
 ghost use Rattle.shelf.specs.Shelf.{IsAccepted, IsDurable, Leaves};
 
-use crate::device::{count_devices, places};
+use crate::device::places;
+use crate::devices::Devices;
 use crate::index::Index;
 use crate::keep::{KeepFault, keep};
 use crate::listing::list_all;
@@ -31,19 +32,21 @@ pub struct Shelf<M: Medium> {
     journal: Journal<M>,
     list: Vec<Stored>,
     index: Index,
+    devices: Devices,
     down: bool,
     opened: u64,
     alloc: Global,
 }
 
 impl<M: Medium> Model for Shelf<M> {
+    ghost use Rattle.shelf.specs.Devices.{IsCounted};
     ghost use Rattle.shelf.specs.Shelf.{ShelfView, IsShelf};
 
     ghost Value = { ShelfView };
 
     ghost view = { λ s. record { medium = s.journal.medium; list = s.list.items; down = s.down; opened = s.opened } };
 
-    ghost invariant = { λ s. IsShelf s.journal s.list.items s.index s.down s.opened };
+    ghost invariant = { λ s. IsShelf s.journal s.list.items s.index s.down s.opened × IsCounted s.list.items s.devices };
 }
 
 impl<M: Medium> Shelf<M> {
@@ -69,7 +72,8 @@ impl<M: Medium> Shelf<M> {
             Ok((journal, entries)) => {
                 let mut list = Vec::new(alloc);
                 let mut index = Index::new(alloc);
-                match list_all(alloc, &mut list, &mut index, &entries) {
+                let mut devices = Devices::new(alloc);
+                match list_all(alloc, &mut list, &mut index, &mut devices, &entries) {
                     Err(NoMemory) => Err((ArchiveFault::NoMemory, journal.into_medium())),
                     Ok(()) => {
                         let opened = journal.faults();
@@ -77,6 +81,7 @@ impl<M: Medium> Shelf<M> {
                             journal,
                             list,
                             index,
+                            devices,
                             down: false,
                             opened,
                             alloc,
@@ -110,8 +115,18 @@ impl<M: Medium> Shelf<M> {
                 if self.list.len() == known {
                     return Ok(receipt);
                 }
+                let new = match self.devices.note(self.alloc, &self.list, known, imei) {
+                    Ok(new) => new,
+                    Err(NoMemory) => {
+                        self.list.truncate(known);
+                        return Err(AdmitFault::NoMemory);
+                    }
+                };
                 match keep(self.alloc, &mut self.journal, imei, &self.list[known..]) {
-                    Ok(()) => Ok(receipt),
+                    Ok(()) => {
+                        self.devices.count += new;
+                        Ok(receipt)
+                    }
                     Err(KeepFault::NoMemory) => {
                         self.list.truncate(known);
                         Err(AdmitFault::NoMemory)
@@ -147,7 +162,7 @@ impl<M: Medium> Shelf<M> {
     pub fn devices(&self) -> u64
         ensures { result ≡ devices_of self.now.list }
     {
-        count_devices(&self.list)
+        self.devices.count
     }
 
     /// How often its medium has failed.

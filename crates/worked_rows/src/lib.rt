@@ -1,7 +1,9 @@
-//! Worked rows that take several crates: a flash ring over media in memory, under power loss and failing calls. It has tests
+//! Worked rows that take several crates: a flash ring and a shelf over media in memory, under power loss and failing calls. It has tests
 //! alone, so that the crates below aren't proved once more for them.
 #![tactic(auto)]
 
+#[cfg(test)]
+mod archive;
 #[cfg(test)]
 mod flash;
 #[cfg(test)]

@@ -5,8 +5,10 @@ use Rattle.shelf.proofs.Leaving.{durable-shelf}
 use Rattle.shelf.proofs.shelf.Shelf.open.Goals as goal
 
 pub invariant_of-result : goal.invariant_of-result
-invariant_of-result g c =
-    opened-shelf _ _ _ _ _ _ c.in-Ok.ensures.durable c.in-Ok.ensures.read c.new-list.ensures.items c.in-Ok-list_all.ensures.listed c.in-Ok-list_all.ensures.complete c.faults-opened.ensures
+invariant_of-result g c = (
+  opened-shelf _ _ _ _ _ _ c.in-Ok.ensures.durable c.in-Ok.ensures.read c.new-list.ensures.items c.in-Ok-list_all.ensures.listed c.in-Ok-list_all.ensures.complete c.faults-opened.ensures,
+  c.in-Ok-list_all.ensures.counted,
+)
 
 pub returns-clause-durable : goal.returns-clause-durable
 returns-clause-durable g c =
