@@ -5,8 +5,9 @@ mod command;
 mod row;
 mod writing;
 
-
 pub use command::{Command, well_formed};
 pub use command_layout::Way;
 pub use writing::write_command;
 
+#[cfg(test)]
+mod tests;

@@ -14,9 +14,13 @@ pub struct Row {
 }
 
 const KINDS_12_UP: [u8; 1] = [0x06];
+
 const KINDS_13_UP: [u8; 1] = [0x06];
+
 const KINDS_14_UP: [u8; 2] = [0x06, 0x11];
+
 const KINDS_15_UP: [u8; 1] = [0x0b];
+
 const KINDS_DOWN: [u8; 1] = [0x05];
 
 /// A command with these types, of a codec that has a time, an IMEI, both or neither.

@@ -12,6 +12,9 @@ use crate::command::Command;
 use arrayvec::ArrayVec;
 use avl_values::Imei;
 
+/// A body has one command.
+const QUANTITY: u8 = 1;
+
 fn two_digits(n: u64) -> u8
     ensures { result ≡ two_digits n }
 {
@@ -98,13 +101,13 @@ fn put_command(out: &mut ArrayVec<u8, 1268>, command: &Command<'_>, size: usize)
     ensures fit { Fits (value_of command.now) }
 {
     out.push(command.codec);
-    out.push(1);
+    out.push(QUANTITY);
     out.push(command.kind);
     put_all(out, &(size as u32).to_be_bytes());
     put_time(out, command.time);
     put_imei(out, command.imei);
     put_all(out, command.text);
-    out.push(1);
+    out.push(QUANTITY);
 }
 
 #[tactic(auto, using(crate::proofs::Sizes::content_length, crate::proofs::Sizes::body_length))]
