@@ -1,0 +1,67 @@
+//! The table of what stands in a command.
+ghost use Rattle.std.specs.Prelude.{◌≡◌, Some};
+ghost use Rattle.command_layout.specs.Table.{is_among, row_of};
+ghost use Rattle.command_codecs.specs.Views.{found_row};
+
+use command_layout::Way;
+
+/// The types that may stand in a command of a codec and way, and whether its content has a time and an IMEI.
+#[derive(Clone, Copy)]
+pub struct Row {
+    pub kinds: &'static [u8],
+    pub time: bool,
+    pub imei: bool,
+}
+
+const KINDS_12_UP: [u8; 1] = [0x06];
+
+const KINDS_13_UP: [u8; 1] = [0x06];
+
+const KINDS_14_UP: [u8; 2] = [0x06, 0x11];
+
+const KINDS_15_UP: [u8; 1] = [0x0b];
+
+const KINDS_DOWN: [u8; 1] = [0x05];
+
+/// A command with these types, of a codec that has a time, an IMEI, both or neither.
+fn some_row(kinds: &'static [u8], time: bool, imei: bool) -> Option<Row>
+    ensures { found_row result ≡ Some (record { kinds = kinds.now; time = time; imei = imei }) }
+{
+    Some(Row { kinds, time, imei })
+}
+
+/// The row of a codec id; None exactly where no command of this codec passes this way.
+pub fn row_of(way: Way, id: u8) -> Option<Row>
+    ensures { found_row result ≡ row_of way id }
+{
+    match way {
+        Way::Up => match id {
+            0x0c => some_row(&KINDS_12_UP, false, false),
+            0x0d => some_row(&KINDS_13_UP, true, false),
+            0x0e => some_row(&KINDS_14_UP, false, true),
+            0x0f => some_row(&KINDS_15_UP, true, true),
+            _ => None,
+        },
+        Way::Down => match id {
+            0x0c => some_row(&KINDS_DOWN, false, false),
+            0x0e => some_row(&KINDS_DOWN, false, true),
+            _ => None,
+        },
+    }
+}
+
+impl Row {
+    /// Whether a type is one of the row's.
+    pub fn has_kind(&self, kind: u8) -> bool
+        ensures { result ≡ is_among kind self.now.kinds.now }
+    {
+        let mut kinds = self.kinds;
+        while let Some((first, rest)) = kinds.split_first() {
+            if *first == kind {
+                return true;
+            }
+            kinds = rest;
+        }
+        false
+    }
+}

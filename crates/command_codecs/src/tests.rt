@@ -1,0 +1,96 @@
+use super::{Command, Way, well_formed, write_command};
+use arrayvec::ArrayVec;
+use avl_values::Imei;
+use std::test::Fail;
+
+/// Teltonika's examples, the refusal of Codec 14 among them, and a message of Codec 13.
+fn rows() -> [(
+    u8,
+    u8,
+    Option<u32>,
+    Option<&'static [u8; 15]>,
+    &'static [u8],
+    &'static [u8],
+); 4] {
+    [
+        (
+            0x0c,
+            0x05,
+            None,
+            None,
+            b"getinfo",
+            b"\x0c\x01\x05\0\0\0\x07getinfo\x01",
+        ),
+        (
+            0x0e,
+            0x05,
+            None,
+            Some(b"352093081452251"),
+            b"getver",
+            b"\x0e\x01\x05\0\0\0\x0e\x03\x52\x09\x30\x81\x45\x22\x51getver\x01",
+        ),
+        (
+            0x0e,
+            0x11,
+            None,
+            Some(b"352093081452251"),
+            b"",
+            b"\x0e\x01\x11\0\0\0\x08\x03\x52\x09\x30\x81\x45\x22\x51\x01",
+        ),
+        (
+            0x0d,
+            0x06,
+            Some(16),
+            None,
+            b"ok",
+            b"\x0d\x01\x06\0\0\0\x06\0\0\0\x10ok\x01",
+        ),
+    ]
+}
+
+fn imei(digits: Option<&'static [u8; 15]>) -> Option<Imei> {
+    Imei::from_digits(digits?.as_slice())
+}
+
+#[test]
+fn examples(rt: HostRuntime) -> Result<(), Fail> {
+    let mut out = ArrayVec::new();
+    for (codec, kind, time, digits, text, bytes) in rows() {
+        let imei = imei(digits);
+        let command = Command {
+            codec,
+            kind,
+            time,
+            imei,
+            text,
+        };
+        assert!(rt; write_command(&command, &mut out));
+        assert_eq!(rt; out.as_slice(), bytes);
+        assert_eq!(rt; well_formed(&command, Way::Down), kind == 5);
+        assert_eq!(rt; well_formed(&command, Way::Up), kind != 5);
+    }
+    Ok(())
+}
+
+fn zeros() -> [u8; 1261] {
+    [0; 1261]
+}
+
+#[test]
+fn the_longest(rt: HostRuntime) -> Result<(), Fail> {
+    let zeros = zeros();
+    let mut out = ArrayVec::new();
+    for (len, written) in [(1260, true), (1261, false)] {
+        let text = zeros.get(..len).ok_or("1,261 bytes")?;
+        let command = Command {
+            codec: 0x0c,
+            kind: 5,
+            time: None,
+            imei: None,
+            text,
+        };
+        assert_eq!(rt; write_command(&command, &mut out), written);
+        assert_eq!(rt; out.len(), if written { 1268 } else { 0 });
+    }
+    Ok(())
+}

@@ -1,0 +1,6 @@
+pub mod CommandFills
+pub mod CommandLaws
+pub mod ContentFills
+pub mod Examples
+pub mod ImeiFills
+pub mod NumberFills

@@ -1,0 +1,5 @@
+pub mod CommandRows
+pub mod Laws
+pub mod Spelling
+pub mod Table
+pub mod Values

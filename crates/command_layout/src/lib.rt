@@ -1,0 +1,11 @@
+//! Commands and responses of Codecs 12 to 15 as definitions: one table of what stands in a command of each codec and way, the
+//! one spelling of a command, the rows of its verdict, and the laws between both.
+#![tactic(auto)]
+
+mod laws;
+mod way;
+
+pub use laws::{
+    command_is_whole, command_verdict_stays, no_command_begins_another, whole_is_command,
+};
+pub use way::Way;
