@@ -157,6 +157,40 @@ fn each_record_of_a_device_once(rt: HostRuntime) -> Result<(), Fail> {
     Ok(())
 }
 
+/// The body of Teltonika's example of Codec 16, with two records.
+const CODEC_16: [u8; 95] = [
+    0x10, 0x02, 0x00, 0x00, 0x01, 0x6b, 0xdb, 0xc7, 0x83, 0x30, 0x00, 0x00, 0x00, 0x00, 0x00, 0x00,
+    0x00, 0x00, 0x00, 0x00, 0x00, 0x00, 0x00, 0x00, 0x00, 0x00, 0x00, 0x0b, 0x05, 0x04, 0x02, 0x00,
+    0x01, 0x00, 0x00, 0x03, 0x00, 0x02, 0x00, 0x0b, 0x00, 0x27, 0x00, 0x42, 0x56, 0x3a, 0x00, 0x00,
+    0x00, 0x00, 0x01, 0x6b, 0xdb, 0xc7, 0x87, 0x18, 0x00, 0x00, 0x00, 0x00, 0x00, 0x00, 0x00, 0x00,
+    0x00, 0x00, 0x00, 0x00, 0x00, 0x00, 0x00, 0x00, 0x00, 0x0b, 0x05, 0x04, 0x02, 0x00, 0x01, 0x00,
+    0x00, 0x03, 0x00, 0x02, 0x00, 0x0b, 0x00, 0x26, 0x00, 0x42, 0x56, 0x3a, 0x00, 0x00, 0x02,
+];
+
+// The example admitted twice, over a medium whose first call behind the first time fails: what the second time answered, how
+// many records are listed, and the device's places.
+fn example_twice(alloc: Global) -> Option<((u8, u64, u64), usize, (u64, u64))> {
+    let Ok(mut shelf) = opened(alloc, b"", &[8])? else {
+        return None;
+    };
+    let imei = Imei::from_number(DEVICE)?;
+    places(admit_bytes(&mut shelf, imei, &CODEC_16))?;
+    let again = places(admit_bytes(&mut shelf, imei, &CODEC_16))?;
+    let Ok(found) = shelf.device(imei) else {
+        return None;
+    };
+    match found.as_slice() {
+        [first, second] => Some((again, shelf.list().len(), (*first, *second))),
+        _ => None,
+    }
+}
+
+#[test]
+fn an_example_again_makes_no_call_of_the_medium(rt: HostRuntime) -> Result<(), Fail> {
+    assert_eq!(rt; example_twice(rt.alloc()), Some(((2, 0, 1), 2, (0, 1))));
+    Ok(())
+}
+
 // How many devices a shelf of two records has, and the places of one of them.
 fn devices(alloc: Global) -> Option<(u64, u64, u64)> {
     let Ok(mut shelf) = opened(alloc, b"", &[])? else {
