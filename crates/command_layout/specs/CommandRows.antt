@@ -41,8 +41,8 @@ abbrev pub content_rows : CommandRow → ℕ → ℕ → ℕ → Rows CommandVal
 content_rows r codec kind size =
     time_rows r.time
     (λ time.
-        imei_rows r.imei
-        (λ imei. text_rows (size - least_size r) (λ text. record { codec = codec; kind = kind; time = time; imei = imei; text = text })))
+    imei_rows r.imei
+    (λ imei. text_rows (size - least_size r) (λ text. record { codec = codec; kind = kind; time = time; imei = imei; text = text })))
 
 -- the size, which is the body's length less the 8 bytes that aren't content, and at least the row's least
 unfoldable pub size_rows : ℕ → CommandRow → ℕ → ℕ → Rows CommandValue
