@@ -130,7 +130,13 @@ fn after_first_digit(way: Way, total: u32, text: u32, value: u64) -> Result<Curs
     }
 }
 
-fn after_digits(way: Way, total: u32, behind: u8, text: u32, value: u64) -> Result<Cursor, FaultKind>
+fn after_digits(
+    way: Way,
+    total: u32,
+    behind: u8,
+    text: u32,
+    value: u64,
+) -> Result<Cursor, FaultKind>
     ensures follows { (v : CommandValue) → (field : List ℕ) → number field ≡ value → Follows way total (rows_from way total (Cursor.Digits behind text) v) field result }
     ensures turns { IfOk result (λ cursor. weight cursor ≤ 1) }
 {
