@@ -1,6 +1,6 @@
 -- The digits of an IMEI, byte by byte.
-use Rattle.std.proofs.Common.{◌≡◌, ℕ, ◌/◌, ◌^◌, List, [], ◌∷◌, Option, Some, None, length, refl, sym, ap, ◌∙◌, arith}
-use Rattle.command_layout.specs.Spelling.{digit_pairs, imei_bytes, two_digits}
+use Rattle.std.proofs.Common.{◌≡◌, ℕ, ◌/◌, ◌^◌, [], ◌∷◌, length, refl, sym, ap, ◌∙◌, arith}
+use Rattle.command_layout.specs.Spelling.{digit_pairs, two_digits}
 
 pub eight_pairs : (n a b c d e f g h : ℕ) → a ≡ two_digits (n / 100 ^ 7) → b ≡ two_digits (n / 100 ^ 6) → c ≡ two_digits (n / 100 ^ 5) → d ≡ two_digits (n / 100 ^ 4) → e ≡ two_digits (n / 100 ^ 3)
     → f ≡ two_digits (n / 100 ^ 2) → g ≡ two_digits (n / 100 ^ 1) → h ≡ two_digits n → a ∷ b ∷ c ∷ d ∷ e ∷ f ∷ g ∷ h ∷ [] ≡ digit_pairs 8 n

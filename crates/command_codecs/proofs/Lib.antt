@@ -1,2 +1,4 @@
+pub mod CommandSteps
+pub mod CursorSteps
 pub mod Digits
 pub mod Sizes

@@ -1,5 +1,5 @@
 -- How long a command is.
-use Rattle.std.proofs.Common.{◌≡◌, ℕ, ◌+◌, ◌++◌, length, ◌∙◌, arith, length-append}
+use Rattle.std.proofs.Common.{◌≡◌, ◌+◌, ◌++◌, length, arith, length-append}
 use Rattle.command_layout.specs.Spelling.{command_of, content_of, imei_bytes, time_bytes}
 use Rattle.command_layout.specs.Values.{CommandValue}
 use Rattle.command_layout.proofs.CommandFills.{command_size}

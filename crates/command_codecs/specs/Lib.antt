@@ -1,1 +1,3 @@
+pub mod CommandCursor
+pub mod Verdicts
 pub mod Views

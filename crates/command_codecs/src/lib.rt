@@ -2,11 +2,17 @@
 #![tactic(auto)]
 
 mod command;
+mod cursor;
+mod number;
 mod row;
+mod scanning;
+mod verdict;
 mod writing;
 
 pub use command::{Command, well_formed};
 pub use command_layout::Way;
+pub use scanning::scan_command;
+pub use verdict::CommandScan;
 pub use writing::write_command;
 
 #[cfg(test)]

@@ -1,7 +1,7 @@
 //! The table of what stands in a command.
-ghost use Rattle.std.specs.Prelude.{◌≡◌, Some};
-ghost use Rattle.command_layout.specs.Table.{is_among, row_of};
-ghost use Rattle.command_codecs.specs.Views.{found_row};
+ghost use Rattle.std.specs.Prelude.{◌≡◌, ◌≤◌, Some};
+ghost use Rattle.command_layout.specs.Table.{is_among, least_size, row_of};
+ghost use Rattle.command_codecs.specs.Views.{found_row, row_is};
 
 use command_layout::Way;
 
@@ -51,6 +51,19 @@ pub fn row_of(way: Way, id: u8) -> Option<Row>
 }
 
 impl Row {
+    /// The least size of the content: 4 bytes of time, and 8 of an IMEI.
+    pub fn least(&self) -> u32
+        ensures is { result ≡ least_size (row_is self.now) }
+        ensures few { result ≤ 12 }
+    {
+        match (self.time, self.imei) {
+            (true, true) => 12,
+            (true, false) => 4,
+            (false, true) => 8,
+            (false, false) => 0,
+        }
+    }
+
     /// Whether a type is one of the row's.
     pub fn has_kind(&self, kind: u8) -> bool
         ensures { result ≡ is_among kind self.now.kinds.now }

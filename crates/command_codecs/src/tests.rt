@@ -1,6 +1,6 @@
-use super::{Command, Way, well_formed, write_command};
+use super::{Command, CommandScan, Way, scan_command, well_formed, write_command};
 use arrayvec::ArrayVec;
-use avl_values::Imei;
+use avl_values::{Fault, FaultKind, Imei};
 use std::test::Fail;
 
 /// Teltonika's examples, the refusal of Codec 14 among them, and a message of Codec 13.
@@ -91,6 +91,85 @@ fn the_longest(rt: HostRuntime) -> Result<(), Fail> {
         };
         assert_eq!(rt; write_command(&command, &mut out), written);
         assert_eq!(rt; out.len(), if written { 1268 } else { 0 });
+    }
+    Ok(())
+}
+
+fn faults() -> [(&'static [u8], Way, FaultKind, u32); 8] {
+    [
+        (
+            b"\x0d\x01\x06\0\0\0\x06\0\0\0\x10ok\x01",
+            Way::Down,
+            FaultKind::UnknownCodec,
+            0,
+        ),
+        (
+            b"\x0d\x02\x06\0\0\0\x06\0\0\0\x10ok\x01",
+            Way::Up,
+            FaultKind::Quantity,
+            1,
+        ),
+        (
+            b"\x0d\x01\x07\0\0\0\x06\0\0\0\x10ok\x01",
+            Way::Up,
+            FaultKind::CommandType,
+            2,
+        ),
+        (
+            b"\x0d\x01\x06\0\0\0\x05\0\0\0\x10ok\x01",
+            Way::Up,
+            FaultKind::CommandSize,
+            3,
+        ),
+        (
+            b"\x0e\x01\x05\0\0\0\x0e\x13\x52\x09\x30\x81\x45\x22\x51getver\x01",
+            Way::Down,
+            FaultKind::ImeiDigits,
+            7,
+        ),
+        (
+            b"\x0c\x01\x05\0\0\0\0\x02",
+            Way::Down,
+            FaultKind::Quantity,
+            7,
+        ),
+        (
+            b"\x0c\x01\x05\0\0\0\0",
+            Way::Down,
+            FaultKind::CommandSize,
+            3,
+        ),
+        (b"\x0c\x01\x05\0\0\0", Way::Down, FaultKind::Overrun, 3),
+    ]
+}
+
+#[test]
+fn the_first_fault(rt: HostRuntime) -> Result<(), Fail> {
+    for (body, way, kind, place) in faults() {
+        assert!(rt; body.len() <= 22);
+        assert_eq!(rt;
+            scan_command(body, body.len() as u32, way),
+            CommandScan::Broken(Fault { kind, place })
+        );
+    }
+    Ok(())
+}
+
+#[test]
+fn whole_at_the_last_byte(rt: HostRuntime) -> Result<(), Fail> {
+    for (_, kind, _, _, _, bytes) in rows() {
+        let way = if kind == 5 { Way::Down } else { Way::Up };
+        let total = bytes.len();
+        assert!(rt; total <= 22);
+        for n in 0..=total {
+            let have = bytes.get(..n).ok_or("some first bytes")?;
+            let whole = if n == total {
+                CommandScan::Whole
+            } else {
+                CommandScan::More
+            };
+            assert_eq!(rt; scan_command(have, total as u32, way), whole);
+        }
     }
     Ok(())
 }

@@ -1,12 +1,12 @@
 -- Commands and what fills their rows.
-use Rattle.std.proofs.Common.{◌≡◌, ℕ, suc, ◌+◌, ◌-◌, ◌<◌, ◌≤◌, ◌^◌, ◌==◌, ◌&&◌, List, [], ◌∷◌, ◌++◌, length, Bool, true, false, Option, Some, None, refl, sym, ap, subst, ◌∙◌, arith, length-append}
+use Rattle.std.proofs.Common.{◌≡◌, ℕ, ◌+◌, ◌<◌, ◌≤◌, ◌==◌, ◌&&◌, List, [], ◌∷◌, ◌++◌, length, true, Option, Some, None, refl, sym, ap, subst, ◌∙◌, arith, length-append}
 use Rattle.std.specs.Prelude.{nat_le}
 use Rattle.std.specs.Int.{bytes_high_first}
 use Rattle.std.proofs.lemmas.Bool.Decides.{nat_tests}
 use Rattle.avl_values.specs.declared.fault.FaultKind.TheVariants.{CommandSize, CommandType}
 use Rattle.layout.specs.Bytes.{AreBytes}
 use Rattle.layout.specs.Fields.{fault_unless}
-use Rattle.layout.specs.Rows.{Rows, done, Fills}
+use Rattle.layout.specs.Rows.{Fills}
 use Rattle.layout.proofs.Numbers.{length_spell}
 use Rattle.record_layout.proofs.Fitting.{passed}
 use Rattle.command_layout.specs.declared.way.Way.{Way}

@@ -1,8 +1,7 @@
 -- The laws of commands.
-use Rattle.std.proofs.Common.{◌≡◌, ℕ, ◌+◌, ◌≤◌, List, [], ◌∷◌, ◌++◌, length, take, drop, refl, sym, ap, subst, ◌∙◌, arith, length-take, length-drop}
+use Rattle.std.proofs.Common.{◌≡◌, ℕ, ◌+◌, ◌≤◌, List, [], ◌++◌, length, take, drop, refl, sym, ap, subst, ◌∙◌, arith, length-take, length-drop}
 use Rattle.std.proofs.lemmas.List.{append-nil}
 use Rattle.std.specs.Int.{bytes_high_first}
-use Rattle.layout.specs.Bytes.{AreBytes}
 use Rattle.layout.specs.Fields.{number}
 use Rattle.layout.specs.Rows.{done, whole, body, Fills}
 use Rattle.layout.proofs.Filling.{fills_done, done_filled}

@@ -1,7 +1,7 @@
 -- Teltonika's worked examples, and rows of this project's own, as lemmas that compute.
-use Rattle.std.proofs.Common.{◌≡◌, ℕ, List, [], ◌∷◌, ◌++◌, length, Some, None, refl}
+use Rattle.std.proofs.Common.{◌≡◌, ℕ, List, [], ◌∷◌, Some, None, refl}
 use Rattle.avl_values.specs.declared.fault.FaultKind.TheVariants.{CommandSize, CommandType, ImeiDigits, Overrun, Quantity, UnknownCodec}
-use Rattle.layout.specs.Rows.{Verdict, whole, short, fault, judge, within}
+use Rattle.layout.specs.Rows.{whole, short, fault, judge, within}
 use Rattle.command_layout.specs.declared.way.Way.TheVariants.{Up, Down}
 use Rattle.command_layout.specs.Values.{CommandValue}
 use Rattle.command_layout.specs.Spelling.{command_of, digit_pairs}

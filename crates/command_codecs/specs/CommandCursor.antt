@@ -1,0 +1,69 @@
+-- What is left of a command's rows at a place of the code. The code keeps only what the later rows depend on; what the command
+-- has said so far is a value beside it.
+use Rattle.std.specs.Prelude.{◌≡◌, ◌≤◌, length, ℕ, suc, List, Bool, true, Option, Some, None, Result, Ok, Err}
+use Rattle.avl_values.specs.declared.fault.FaultKind.{FaultKind}
+use Rattle.layout.specs.Rows.{Rows, done}
+use Rattle.layout.specs.Fields.{number, number_row}
+use Rattle.layout.specs.Next.{width_of, rule_of, rows_after}
+use Rattle.command_layout.specs.declared.way.Way.{Way}
+use Rattle.command_layout.specs.CommandRows.{command_rows, imei_rows, kind_rows, pair_rows, quantity_row, size_rows, text_rows, time_rows}
+use Rattle.command_layout.specs.Values.{CommandValue}
+use Rattle.command_codecs.specs.declared.cursor.Cursor.{Cursor}
+use Rattle.command_codecs.specs.declared.cursor.Cursor.TheVariants as at
+use Rattle.command_codecs.specs.declared.cursor.Left.{Left}
+use Rattle.command_codecs.specs.declared.cursor.Left.TheVariants as left
+use Rattle.command_codecs.specs.Views.{row_is}
+
+abbrev pub said : CommandValue → Option ℕ → Option ℕ → List ℕ → CommandValue
+said v time imei text = record { codec = v.codec; kind = v.kind; time = time; imei = imei; text = text }
+
+abbrev pub digits_of : Option ℕ → ℕ
+digits_of (Some n) = n
+digits_of None = 0
+
+abbrev pub rows_from : Way → ℕ → Cursor → CommandValue → Rows CommandValue
+rows_from way total at.Codec v = command_rows way total
+rows_from way total (at.Quantity row) v = quantity_row (kind_rows total (row_is row) v.codec)
+rows_from way total (at.Kind row) v = kind_rows total (row_is row) v.codec
+rows_from way total (at.Size row) v = size_rows total (row_is row) v.codec v.kind
+rows_from way total (at.Time imei text) v = number_row 4 (λ _. None) (λ n. imei_rows imei (λ i. text_rows text (λ t. said v (Some n) i t)))
+rows_from way total (at.FirstDigit text) v = imei_rows true (λ i. text_rows text (λ t. said v v.time i t))
+rows_from way total (at.Digits behind text) v = pair_rows (suc behind) (digits_of v.imei) (λ n. text_rows text (λ t. said v v.time (Some n) t))
+rows_from way total (at.Text text) v = text_rows text (λ t. said v v.time v.imei t)
+rows_from way total at.LastQuantity v = quantity_row (done v)
+rows_from way total at.End v = done v
+
+-- the code goes over a text of no bytes only once
+abbrev pub weight : Cursor → ℕ
+weight at.Codec = 0
+weight (at.Quantity row) = 0
+weight (at.Kind row) = 0
+weight (at.Size row) = 0
+weight (at.Time imei text) = 0
+weight (at.FirstDigit text) = 0
+weight (at.Digits behind text) = 0
+weight (at.Text text) = 1
+weight at.LastQuantity = 0
+weight at.End = 0
+
+-- the next field's width, if one is left
+abbrev pub left_of : Cursor → Left
+left_of at.Codec = left.Field 1
+left_of (at.Quantity row) = left.Field 1
+left_of (at.Kind row) = left.Field 1
+left_of (at.Size row) = left.Field 4
+left_of (at.Time imei text) = left.Field 4
+left_of (at.FirstDigit text) = left.Field 1
+left_of (at.Digits behind text) = left.Field 1
+left_of (at.Text text) = left.Field text
+left_of at.LastQuantity = left.Field 1
+left_of at.End = left.Nothing
+
+-- the value is that of the field, where the field is no longer than a number
+abbrev pub Reads : List ℕ → ℕ → Type 0
+Reads field value = length field ≤ 8 → number field ≡ value
+
+-- what the code answers to a field of the rows
+abbrev pub Follows : Way → ℕ → Rows CommandValue → List ℕ → Result Cursor FaultKind → Type 0
+Follows way total rows field (Ok cursor) = (rule_of rows field ≡ None) × (w : CommandValue) × (rows_after rows field ≡ rows_from way total cursor w)
+Follows way total rows field (Err kind) = rule_of rows field ≡ Some kind

@@ -1,0 +1,17 @@
+-- What the judging call answers, as a verdict that says no value.
+use Rattle.std.specs.Prelude.{ℕ}
+use Rattle.avl_values.specs.declared.fault.Fault.{Fault}
+use Rattle.layout.specs.Rows.{Verdict, whole, short, fault}
+use Rattle.command_layout.specs.Values.{CommandValue}
+use Rattle.command_codecs.specs.declared.verdict.CommandScan.{CommandScan}
+use Rattle.command_codecs.specs.declared.verdict.CommandScan.TheVariants.{More, Whole, Broken}
+
+abbrev pub without_value : Verdict CommandValue → Verdict (Unit {0})
+without_value (whole v n) = whole (tt {0}) n
+without_value short = short
+without_value (fault kind place) = fault kind place
+
+abbrev pub scan_verdict : ℕ → CommandScan → Verdict (Unit {0})
+scan_verdict total More = short
+scan_verdict total Whole = whole (tt {0}) total
+scan_verdict total (Broken found) = fault found.kind found.place
