@@ -1,10 +1,10 @@
 -- A command's cursor over bytes: each field on the way to the body's end, to its last byte so far or to a rule that fails.
-use Rattle.std.proofs.Common.{◌≡◌, ℕ, ◌+◌, ◌-◌, ◌*◌, ◌<◌, ◌≤◌, ◌^◌, List, [], length, take, drop, Some, None, Ok, Err, refl, sym, ap, ◌∙◌, arith, length-take, length-drop}
+use Rattle.std.proofs.Common.{◌≡◌, ℕ, ◌+◌, ◌-◌, ◌*◌, ◌<◌, ◌≤◌, ◌^◌, List, [], length, take, drop, None, Ok, Err, refl, sym, ap, ◌∙◌, arith, length-take, length-drop}
 use Rattle.std.proofs.Math.Nat.{pow-le-pow_right}
 use Rattle.avl_values.specs.declared.fault.FaultKind.{FaultKind}
 use Rattle.avl_values.specs.declared.fault.FaultKind.TheVariants.{Overrun, Excess}
 use Rattle.layout.specs.Fields.{number}
-use Rattle.layout.specs.Rows.{Rows, Verdict, done, judge, body, short, fault, whole}
+use Rattle.layout.specs.Rows.{done, judge, body, short, fault, whole}
 use Rattle.layout.proofs.Stepping.{body_overrun, body_missing, body_on, body_fault, body_whole, body_excess}
 use Rattle.command_layout.specs.declared.way.Way.{Way}
 use Rattle.command_layout.specs.CommandRows.{command_rows, command_verdict}

@@ -1,9 +1,9 @@
 -- A command's cursor, field by field.
-use Rattle.std.proofs.Common.{◌≡◌, ℕ, length, suc, ◌+◌, ◌-◌, ◌*◌, ◌/◌, ◌%◌, ◌<◌, ◌≤◌, ◌&&◌, List, Bool, true, false, Option, Some, None, Ok, Err, refl, sym, ap, ◌∙◌, arith, ◌==◌}
+use Rattle.std.proofs.Common.{◌≡◌, ℕ, length, suc, ◌+◌, ◌-◌, ◌*◌, ◌/◌, ◌%◌, ◌<◌, ◌≤◌, ◌&&◌, List, Bool, true, false, Some, None, Ok, Err, refl, sym, ap, ◌∙◌, arith, ◌==◌}
 use Rattle.std.specs.Prelude.{nat_le}
 use Rattle.std.proofs.lemmas.Bool.Decides.{nat_tests}
-use Rattle.layout.specs.Rows.{Rows, done}
-use Rattle.avl_values.specs.declared.fault.FaultKind.TheVariants.{CommandSize, CommandType, ImeiDigits, Quantity, UnknownCodec}
+use Rattle.layout.specs.Rows.{Rows}
+use Rattle.avl_values.specs.declared.fault.FaultKind.TheVariants.{CommandSize, CommandType, ImeiDigits, UnknownCodec}
 use Rattle.layout.specs.Fields.{number, fault_unless}
 use Rattle.layout.specs.Next.{width_of}
 use Rattle.command_layout.specs.declared.way.Way.{Way}

@@ -1,12 +1,12 @@
 -- What is left of a command's rows at a place of the code. The code keeps only what the later rows depend on; what the command
 -- has said so far is a value beside it.
-use Rattle.std.specs.Prelude.{◌≡◌, ◌≤◌, length, ℕ, suc, List, Bool, true, Option, Some, None, Result, Ok, Err}
+use Rattle.std.specs.Prelude.{◌≡◌, ◌≤◌, length, ℕ, suc, List, true, Option, Some, None, Result, Ok, Err}
 use Rattle.avl_values.specs.declared.fault.FaultKind.{FaultKind}
 use Rattle.layout.specs.Rows.{Rows, done}
 use Rattle.layout.specs.Fields.{number, number_row}
-use Rattle.layout.specs.Next.{width_of, rule_of, rows_after}
+use Rattle.layout.specs.Next.{rule_of, rows_after}
 use Rattle.command_layout.specs.declared.way.Way.{Way}
-use Rattle.command_layout.specs.CommandRows.{command_rows, imei_rows, kind_rows, pair_rows, quantity_row, size_rows, text_rows, time_rows}
+use Rattle.command_layout.specs.CommandRows.{command_rows, imei_rows, kind_rows, pair_rows, quantity_row, size_rows, text_rows}
 use Rattle.command_layout.specs.Values.{CommandValue}
 use Rattle.command_codecs.specs.declared.cursor.Cursor.{Cursor}
 use Rattle.command_codecs.specs.declared.cursor.Cursor.TheVariants as at

@@ -1,6 +1,5 @@
 -- What the judging call answers, as a verdict that says no value.
 use Rattle.std.specs.Prelude.{ℕ}
-use Rattle.avl_values.specs.declared.fault.Fault.{Fault}
 use Rattle.layout.specs.Rows.{Verdict, whole, short, fault}
 use Rattle.command_layout.specs.Values.{CommandValue}
 use Rattle.command_codecs.specs.declared.verdict.CommandScan.{CommandScan}

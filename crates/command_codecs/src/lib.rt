@@ -1,4 +1,5 @@
-//! Commands and responses of Codecs 12 to 15 as code: whether a value may pass a way, and a command written as bytes.
+//! Commands and responses of Codecs 12 to 15 as code: a body judged to its first fault, whether a value may pass a way, and a
+//! command written as bytes.
 #![tactic(auto)]
 
 mod command;

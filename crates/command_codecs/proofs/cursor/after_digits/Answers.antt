@@ -1,4 +1,4 @@
-use Rattle.std.proofs.Common.{◌≡◌, suc, ◌-◌, ◌/◌, ◌%◌, ◌≤◌, arith}
+use Rattle.std.proofs.Common.{◌-◌, arith}
 use Rattle.command_codecs.proofs.CursorSteps.{digits_end, digits_fail, digits_follow}
 use Rattle.command_codecs.proofs.cursor.after_digits.Goals as goal
 

@@ -1,6 +1,4 @@
-use Rattle.std.proofs.Common.{◌∙◌, sym, refl, ap, subst, arith}
-use Rattle.command_layout.specs.Table.{least_size}
-use Rattle.command_codecs.specs.Views.{row_is}
+use Rattle.std.proofs.Common.{refl, arith}
 use Rattle.command_codecs.proofs.CursorSteps.{size_fails, with_time, without_time}
 use Rattle.command_codecs.proofs.cursor.after_size.Goals as goal
 
