@@ -179,6 +179,7 @@ module _ (j : JournalView) (list : List StoredValue) (places : List (Keyed × �
     fell = is.fell;
     images = λ up. absurd (let never : false ≡ true = sym up ∙ fallen in cc);
     untouched = λ _. refl;
+    unwritten = λ _. refl;
     counted = counted-none j.medium;
   }
 
@@ -197,6 +198,7 @@ module _ (j : JournalView) (list : List StoredValue) (places : List (Keyed × �
           fell = after.fell;
           images = λ _. subst P (sym content) (images-unchanged j _ (is.up up));
           untouched = never_down;
+          unwritten = λ _. content;
           counted = counted;
         }
 
@@ -212,6 +214,7 @@ module _ (j : JournalView) (list : List StoredValue) (places : List (Keyed × �
           fell = after.fell;
           images = λ _. images-unchanged j _ (is.up up);
           untouched = never_down;
+          unwritten = λ _. refl;
           counted = subst Q (sym none) (counted-none j.medium);
         }
 
@@ -230,6 +233,7 @@ module _ (j : JournalView) (list : List StoredValue) (places : List (Keyed × �
           fell = after.fell;
           images = λ _. subst R new_is images;
           untouched = never_down;
+          unwritten = λ (none : fresh list imei (records_of body) ≡ []). absurd (let never : 0 ≡ 4 = sym (ap calls_for none) ∙ four in cc);
           counted = subst Q (sym four) counted;
         }
 
@@ -245,6 +249,7 @@ module _ (j : JournalView) (list : List StoredValue) (places : List (Keyed × �
           fell = after.fell;
           images = λ _. subst R new_is images;
           untouched = never_down;
+          unwritten = λ never. absurd never;
           counted = counted;
         }
 

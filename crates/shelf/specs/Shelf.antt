@@ -91,6 +91,13 @@ IsMediumFault (Err (Down faults)) = ⊥
 IsMediumFault (Err NoMemory) = ⊥
 IsMediumFault (Err (MediumFault faults)) = Unit {0}
 
+-- A call that writes nothing: the shelf is down, there is no memory, or nothing is new.
+abbrev pub WritesNothing : List Record → Answer → Type 0
+WritesNothing new (Ok places) = new ≡ []
+WritesNothing new (Err (Down faults)) = Unit {0}
+WritesNothing new (Err NoMemory) = Unit {0}
+WritesNothing new (Err (MediumFault faults)) = ⊥
+
 -- What a call of a shelf's `admit` leaves. At every exit, and so at each moment of the call, a power loss leaves the entries
 -- before, or those with one entry of the new records behind them.
 pub record Leaves (old : ShelfView) (imei : ℕ) (body : List ℕ) (result : Result Receipt AdmitFault) (new : ShelfView) : Type 0 where
@@ -100,4 +107,5 @@ pub record Leaves (old : ShelfView) (imei : ℕ) (body : List ℕ) (result : Res
   pub fell : new.down ≡ true → IsAbove new.medium.faults new.opened
   pub images : old.down ≡ false → EachHolds new.medium (IsEither (entries_told old.medium.content) (with_entry (new_entry old.list imei (records_of body)) (entries_told old.medium.content)))
   pub untouched : old.down ≡ true → new.medium ≡ old.medium
+  pub unwritten : WritesNothing (fresh old.list imei (records_of body)) (answer_of result) → new.medium.content ≡ old.medium.content
   pub counted : Counted (admit_calls (fresh old.list imei (records_of body)) (answer_of result)) old.medium new.medium (IsMediumFault (answer_of result))
