@@ -16,7 +16,8 @@ use Rattle.record_layout.specs.PacketRows.{packet_rows}
 use Rattle.record_layout.proofs.Fitting.{passed}
 use Rattle.frame_layout.specs.DownRows.{answer_rows, count_rows, down_rows, order_length_rows, order_rows}
 use Rattle.frame_layout.specs.FrameRows.{body_rows, crc_low_rows, crc_rows, frame_rows, length_rows}
-use Rattle.frame_layout.specs.UpRows.{data_frame_rows, digit_rows, login_rows, up_rows}
+use Rattle.frame_layout.specs.Logins.{digit_rows, login_rows}
+use Rattle.frame_layout.specs.UpRows.{data_frame_rows, login_end, up_rows}
 use Rattle.frame_layout.specs.Values.{answer, count, login, packet}
 
 -- Where rows are short, their first field lacks bytes, or the rows behind it are short.
@@ -55,18 +56,23 @@ never v place bytes e = let f = judge_done v place bytes in cc
 
 -- Up.
 
-digits_few : (k n place : ℕ) (bytes : List ℕ) → judge (digit_rows k n) place bytes ≡ short → length bytes < k
+digits_few : {V : Type 0} (k n most : ℕ) (rest : ℕ → Rows V) (place : ℕ) (bytes : List ℕ) → ((imei p : ℕ) (xs : List ℕ) → judge (rest imei) p xs ≡ short → length xs < most)
+    → judge (digit_rows k n rest) place bytes ≡ short → length bytes < k + most
 unfolding digit_rows
-digits_few zero n place bytes e = absurd (never (login n) place bytes e)
-digits_few (suc k) n place bytes e =
-    let few = few_behind 1 k (λ field. fault_unless (is_digit (number field)) LoginDigit) (λ field. digit_rows k (n * 10 + (number field - 48))) place bytes
-    (λ field p xs passes inner. digits_few k (n * 10 + (number field - 48)) p xs inner) e in
+digits_few zero n most rest place bytes each e = omega (arith, each n place bytes e)
+digits_few (suc k) n most rest place bytes each e =
+    let few = few_behind 1 (k + most) (λ field. fault_unless (is_digit (number field)) LoginDigit) (λ field. digit_rows k (n * 10 + (number field - 48)) rest) place bytes
+    (λ field p xs passes inner. digits_few k (n * 10 + (number field - 48)) most rest p xs each inner) e in
     omega (arith, few)
 
-login_few : (place : ℕ) (bytes : List ℕ) → judge login_rows place bytes ≡ short → length bytes < 17
+-- a login that is short has at most so many bytes behind its 17
+pub login_few : {V : Type 0} (most : ℕ) (rest : ℕ → Rows V) (place : ℕ) (bytes : List ℕ) → ((imei p : ℕ) (xs : List ℕ) → judge (rest imei) p xs ≡ short → length xs < most)
+    → judge (login_rows rest) place bytes ≡ short → length bytes < 17 + most
 unfolding login_rows
-login_few place bytes e =
-    few_behind 2 15 (λ field. fault_unless (number field == 15) LoginLength) (λ _. digit_rows 15 0) place bytes (λ field p xs passes inner. digits_few 15 0 p xs inner) e
+login_few most rest place bytes each e =
+    let few = few_behind 2 (15 + most) (λ field. fault_unless (number field == 15) LoginLength) (λ _. digit_rows 15 0 rest) place bytes
+    (λ field p xs passes inner. digits_few 15 0 most rest p xs each inner) e in
+    omega (arith, few)
 
 crc_few : {V : Type 0} (v : V) (crc place : ℕ) (bytes : List ℕ) → judge (crc_rows v crc) place bytes ≡ short → length bytes < 4
 crc_few v crc place bytes e =
@@ -109,7 +115,7 @@ data_frame_few place bytes e = frame_few 65535 packet_rows packet place bytes e
 
 -- an item up that is unfinished has fewer bytes than the longest frame
 pub short_up_few : (after_login : Bool) (bytes : List ℕ) → judge (up_rows after_login) 0 bytes ≡ short → length bytes < 65547
-short_up_few false bytes e = omega (arith, login_few 0 bytes e)
+short_up_few false bytes e = omega (arith, login_few 0 login_end 0 bytes (λ imei p xs inner. absurd (never (login imei) p xs inner)) e)
 short_up_few true bytes e = data_frame_few 0 bytes e
 
 pub starts_short_up : (after_login : Bool) → judge (up_rows after_login) 0 [] ≡ short

@@ -16,7 +16,8 @@ use Rattle.record_layout.specs.PacketRows.{packet_rows}
 use Rattle.record_layout.specs.declared.head.PacketHead.{PacketHead}
 use Rattle.frame_layout.specs.DownRows.{answer_rows, count_rows, down_rows, order_length_rows, order_rows}
 use Rattle.frame_layout.specs.FrameRows.{body_rows, crc_low_rows, crc_rows, frame_rows, length_rows}
-use Rattle.frame_layout.specs.UpRows.{data_frame_rows, digit_rows, login_rows, up_rows}
+use Rattle.frame_layout.specs.Logins.{digit_rows, login_rows}
+use Rattle.frame_layout.specs.UpRows.{data_frame_rows, login_end, up_rows}
 use Rattle.frame_layout.specs.Values.{DownValue, UpValue, answer, count, login, packet}
 use Rattle.frame_layout.proofs.SaidBytes.{said}
 
@@ -36,16 +37,16 @@ abbrev pub SaysAt : Bool → UpValue → List ℕ → Type 0
 SaysAt false v bytes = SaysLogin v
 SaysAt true v bytes = SaysPacket v bytes
 
-digits_say : (k n : ℕ) (v : UpValue) (bytes : List ℕ) → Fills (digit_rows k n) v bytes → SaysLogin v
+digits_say : (k n : ℕ) (v : UpValue) (bytes : List ℕ) → Fills (digit_rows k n login_end) v bytes → SaysLogin v
 unfolding digit_rows
 digits_say zero n v bytes fills = record { imei = n; value = sym (done_filled (login n) v bytes fills).0 }
 digits_say (suc k) n v bytes fills =
-    let f = row_filled 1 (λ field. fault_unless (is_digit (number field)) LoginDigit) (λ field. digit_rows k (n * 10 + (number field - 48))) v bytes fills in
+    let f = row_filled 1 (λ field. fault_unless (is_digit (number field)) LoginDigit) (λ field. digit_rows k (n * 10 + (number field - 48)) login_end) v bytes fills in
     digits_say k (n * 10 + (number f.0 - 48)) v f.1 f.5
 
-login_says : (v : UpValue) (bytes : List ℕ) → Fills login_rows v bytes → SaysLogin v
+login_says : (v : UpValue) (bytes : List ℕ) → Fills (login_rows login_end) v bytes → SaysLogin v
 unfolding login_rows
-login_says v bytes fills = let f = row_filled 2 (λ field. fault_unless (number field == 15) LoginLength) (λ _. digit_rows 15 0) v bytes fills in digits_say 15 0 v f.1 f.5
+login_says v bytes fills = let f = row_filled 2 (λ field. fault_unless (number field == 15) LoginLength) (λ _. digit_rows 15 0 login_end) v bytes fills in digits_say 15 0 v f.1 f.5
 
 -- the checksum's field has four bytes
 crc_size : {V : Type 0} (says v : V) (crc : ℕ) (bytes : List ℕ) → Fills (crc_rows says crc) v bytes → (says ≡ v) × (length bytes ≡ 4)

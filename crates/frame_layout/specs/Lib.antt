@@ -2,5 +2,6 @@ pub mod DownRows
 pub mod FrameRows
 pub mod Items
 pub mod Laws
+pub mod Logins
 pub mod UpRows
 pub mod Values
