@@ -1,4 +1,6 @@
 pub mod DownRows
+pub mod EitherRows
+pub mod FrameBodies
 pub mod FrameRows
 pub mod Items
 pub mod Laws
