@@ -30,7 +30,7 @@ pub judged_first : (way : Way) (total : ℕ) (have : List ℕ) → JudgedAt way 
 unfolding command_verdict
 judged_first way total have = let n : total - 0 ≡ total = omega arith in (nothing_said, ap (λ k. judge (body k (command_rows way total)) 0 have) (sym n))
 
-at_end : (way : Way) (total : ℕ) (cursor : Cursor) (v : CommandValue) → left_of cursor ≡ left.Nothing → rows_from way total cursor v ≡ done v
+pub at_end : (way : Way) (total : ℕ) (cursor : Cursor) (v : CommandValue) → left_of cursor ≡ left.Nothing → rows_from way total cursor v ≡ done v
 at_end way total at.Codec v e = absurd (cc)
 at_end way total (at.Quantity row) v e = absurd (cc)
 at_end way total (at.Kind row) v e = absurd (cc)

@@ -1,3 +1,4 @@
 pub mod CommandCursor
+pub mod Machines
 pub mod Verdicts
 pub mod Views

@@ -1,9 +1,10 @@
-//! Commands and responses of Codecs 12 to 15 as code: a body judged to its first fault, whether a value may pass a way, and a
-//! command written as bytes.
+//! Commands and responses of Codecs 12 to 15 as code: a body judged to its first fault, whole or byte by byte, whether a value
+//! may pass a way, and a command written as bytes.
 #![tactic(auto)]
 
 mod command;
 mod cursor;
+mod machine;
 mod number;
 mod row;
 mod scanning;
@@ -12,6 +13,7 @@ mod writing;
 
 pub use command::{Command, well_formed};
 pub use command_layout::Way;
+pub use machine::CommandMachine;
 pub use scanning::scan_command;
 pub use verdict::CommandScan;
 pub use writing::write_command;
