@@ -1,9 +1,11 @@
-//! Commands and responses of Codecs 12 to 15 as code: a body judged to its first fault, whether a value may pass a way, and a
-//! command written as bytes.
+//! Commands and responses of Codecs 12 to 15 as code: a body judged to its first fault, whole or byte by byte, whether a value
+//! may pass a way, and a command written as bytes.
 #![tactic(auto)]
 
 mod command;
 mod cursor;
+mod hearing;
+mod machine;
 mod number;
 mod row;
 mod scanning;
@@ -12,7 +14,8 @@ mod writing;
 
 pub use command::{Command, well_formed};
 pub use command_layout::Way;
-pub use scanning::scan_command;
+pub use machine::CommandMachine;
+pub use scanning::{read_command, scan_command};
 pub use verdict::CommandScan;
 pub use writing::write_command;
 

@@ -4,7 +4,8 @@ use Rattle.layout.specs.Rows.{Rows, done}
 use Rattle.layout.specs.Next.{rule_of, rows_after}
 use Rattle.record_layout.specs.PacketRows.{packet_rows}
 use Rattle.frame_layout.specs.FrameRows.{body_rows, crc_low_rows, crc_rows, length_rows}
-use Rattle.frame_layout.specs.UpRows.{data_frame_rows, digit_rows, login_rows}
+use Rattle.frame_layout.specs.Logins.{digit_rows, login_rows}
+use Rattle.frame_layout.specs.UpRows.{data_frame_rows, login_end}
 use Rattle.frame_layout.specs.Values.{UpValue, login, packet}
 use Rattle.frame_channel.specs.declared.up_cursor.UpCursor.{UpCursor}
 use Rattle.frame_channel.specs.declared.up_cursor.UpCursor.TheVariants as at
@@ -13,8 +14,8 @@ use Rattle.frame_channel.specs.declared.up_cursor.UpNext.TheVariants as next
 
 -- the rows that are left; behind a body they know it
 abbrev pub rows_at : List ℕ → UpCursor → Rows UpValue
-rows_at body at.LoginLength = login_rows
-rows_at body (at.LoginDigit left number) = digit_rows (suc left) number
+rows_at body at.LoginLength = login_rows login_end
+rows_at body (at.LoginDigit left number) = digit_rows (suc left) number login_end
 rows_at body at.Preamble = data_frame_rows
 rows_at body at.Length = length_rows 65535 packet_rows packet
 rows_at body (at.CrcHigh head crc) = crc_rows (packet head body) crc

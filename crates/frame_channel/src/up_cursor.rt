@@ -33,7 +33,7 @@ pub enum UpNext {
 
 impl UpCursor {
     /// The field's width in bytes.
-    #[tactic(auto, unfolding(frame_layout::specs::UpRows::login_rows, frame_layout::specs::UpRows::digit_rows, frame_layout::specs::UpRows::data_frame_rows, frame_layout::specs::FrameRows::frame_rows, frame_layout::specs::FrameRows::length_rows))]
+    #[tactic(auto, unfolding(frame_layout::specs::Logins::login_rows, frame_layout::specs::Logins::digit_rows, frame_layout::specs::UpRows::data_frame_rows, frame_layout::specs::FrameRows::frame_rows, frame_layout::specs::FrameRows::length_rows))]
     pub fn width(self) -> u8
         ensures some { 0 < result }
         ensures few { result ≤ 4 }
@@ -62,7 +62,7 @@ impl UpCursor {
     }
 }
 
-#[tactic(auto, unfolding(frame_layout::specs::UpRows::login_rows))]
+#[tactic(auto, unfolding(frame_layout::specs::Logins::login_rows))]
 fn login_length(value: u32) -> UpNext
     ensures { (body : List ℕ) (field : List ℕ) → number_of field ≡ value → Follows body (rows_at body UpCursor.LoginLength) field result }
 {
@@ -73,7 +73,7 @@ fn login_length(value: u32) -> UpNext
     }
 }
 
-#[tactic(auto, unfolding(frame_layout::specs::UpRows::digit_rows))]
+#[tactic(auto, unfolding(frame_layout::specs::Logins::digit_rows))]
 fn login_digit(left: u8, number: u64, value: u32) -> UpNext
     requires { IsSound (UpCursor.LoginDigit left number) }
     ensures { (body : List ℕ) (field : List ℕ) → number_of field ≡ value → Follows body (rows_at body (UpCursor.LoginDigit left number)) field result }

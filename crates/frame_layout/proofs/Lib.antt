@@ -1,6 +1,9 @@
 pub mod Checksum
 pub mod DownLaws
+pub mod EitherFills
+pub mod Examples
 pub mod FrameFills
+pub mod KindFills
 pub mod Lengths
 pub mod LoginFills
 pub mod NumberFills

@@ -1,51 +1,58 @@
 -- The laws of the items up.
-use Rattle.std.proofs.Common.{◌≡◌, ℕ, ◌+◌, ◌≤◌, Bool, true, false, List, [], ◌∷◌, length, take, sym, ap, subst, ◌∙◌, arith, length-append}
-use Rattle.std.specs.List.{flat_map}
+use Rattle.std.proofs.Common.{◌≡◌, ℕ, ◌+◌, Bool, true, false, List, length, take, sym, ap, subst, ◌∙◌, arith}
 use Rattle.std.proofs.Math.Seq.{take-length}
 use Rattle.layout.specs.Bytes.{AreBytes}
 use Rattle.layout.specs.Rows.{whole, Fills}
 use Rattle.layout.proofs.Numbers.{bytes-take}
 use Rattle.layout.proofs.RowLaws.{filled, is_whole, none_begins, stays}
 use Rattle.record_layout.specs.Packet.{IsPacket}
-use Rattle.record_layout.specs.PacketRows.{packet_rows, packet_verdict}
+use Rattle.record_layout.specs.PacketRows.{packet_verdict}
 use Rattle.record_layout.specs.declared.head.PacketHead.{PacketHead}
 use Rattle.record_layout.proofs.ReadLaws.{whole_packet}
-use Rattle.record_layout.proofs.PacketFills.{fills_packet, packet_fills}
-use Rattle.frame_layout.specs.Items.{IsBody, IsFrame, IsUpItem}
+use Rattle.command_layout.specs.declared.way.Way.TheVariants.{Up}
+use Rattle.frame_layout.specs.FrameBodies.{body_kind_rows}
+use Rattle.frame_layout.specs.FrameRows.{frame_rows}
+use Rattle.frame_layout.specs.Items.{IsBody, IsFrame, IsUpItem, frame_of}
 use Rattle.frame_layout.specs.Laws.{NoUpItemBeginsAnother, UpItemIsWhole, UpVerdictStays, WholeIsUpItem}
-use Rattle.frame_layout.specs.UpRows.{data_frame_rows, up_rows}
-use Rattle.frame_layout.specs.Values.{UpValue, login, packet}
+use Rattle.frame_layout.specs.UpRows.{up_frame_rows, up_rows}
+use Rattle.frame_layout.specs.Values.{UpValue, frame_value, login, packet, response}
+use Rattle.frame_layout.specs.declared.body_kind.BodyKind.{BodyKind}
+use Rattle.frame_layout.specs.declared.body_kind.BodyKind.TheVariants.{Packet, Command}
+use Rattle.frame_layout.proofs.EitherFills.{map_fill, map_take}
 use Rattle.frame_layout.proofs.FrameFills.{frame_fill, frame_taken}
+use Rattle.frame_layout.proofs.KindFills.{kind_fill, kind_size, kind_taken}
 use Rattle.frame_layout.proofs.LoginFills.{login_fills, login_taken}
 
--- a data body has at least three bytes
-packet_size : (head : PacketHead) (records : List (List ℕ)) (body : List ℕ) → IsPacket head.codec records body → 3 ≤ length body
-packet_size head records body is = omega (arith, ap length is.is, length-append (flat_map (λ (r : List ℕ). r) records) (length records ∷ []))
+abbrev says : BodyKind × List ℕ → UpValue
+says f = frame_value f.0 f.1
 
-pub body_fills : (head : PacketHead) (body : List ℕ) → IsBody head body → Fills packet_rows head body
-body_fills head body is =
-    subst (λ n. Fills packet_rows (let h : PacketHead = record { codec = head.codec; count = n } in h) body) (sym is.count) (packet_fills head.codec is.records body is.packet)
+frame_fills : (kind : BodyKind) (body bytes : List ℕ) → IsFrame Up kind body bytes → Fills up_frame_rows (frame_value kind body) bytes
+unfolding up_frame_rows
+frame_fills kind body bytes is =
+    let fills : Fills (frame_rows 65535 (body_kind_rows Up)) (kind, body) (frame_of body) =
+    frame_fill 65535 (body_kind_rows Up) kind body is.are_bytes (kind_size Up kind body is.of_body) is.fits (omega arith) (kind_fill Up kind body is.of_body) in
+    subst (Fills up_frame_rows (frame_value kind body)) (sym is.is) (map_fill says (frame_rows 65535 (body_kind_rows Up)) (kind, body) (frame_of body) fills)
 
-pub filled_body : (head : PacketHead) (body : List ℕ) → AreBytes body → Fills packet_rows head body → IsBody head body
-filled_body head body p fills = let f = fills_packet head body p fills in record { records = f.records; packet = f.packet; count = f.count }
+frame_item : (kind : BodyKind) (body bytes : List ℕ) → IsFrame Up kind body bytes → IsUpItem true (frame_value kind body) bytes
+frame_item (Packet head) body bytes is = is
+frame_item Command body bytes is = is
 
-frame_fills : (head : PacketHead) (body bytes : List ℕ) → IsFrame head body bytes → Fills data_frame_rows (packet head body) bytes
-unfolding data_frame_rows
-frame_fills head body bytes is =
-    subst (Fills data_frame_rows (packet head body)) (sym is.is)
-    (frame_fill 65535 packet_rows packet head body is.are_bytes (packet_size head is.of_body.records body is.of_body.packet) is.fits (omega arith) (body_fills head body is.of_body))
-
-filled_frame : (v : UpValue) (bytes : List ℕ) → AreBytes bytes → Fills data_frame_rows v bytes → IsUpItem true v bytes
-unfolding data_frame_rows
+filled_frame : (v : UpValue) (bytes : List ℕ) → AreBytes bytes → Fills up_frame_rows v bytes → IsUpItem true v bytes
+unfolding up_frame_rows
 filled_frame v bytes p fills =
-    let f = frame_taken 65535 packet_rows packet v bytes p fills in
-    subst (λ x. IsUpItem true x bytes) f.value (record { is = f.is; of_body = filled_body f.head f.body f.bytes_in f.fills; fits = f.fits; are_bytes = f.bytes_in })
+    let m = map_take says (frame_rows 65535 (body_kind_rows Up)) v bytes fills in
+    let f = frame_taken 65535 (body_kind_rows Up) m.0 bytes p m.2 in
+    let t = f.taken in
+    let is : IsFrame Up m.0.0 m.0.1 bytes = record { is = f.is; of_body = kind_taken Up (length m.0.1) m.0.0 m.0.1 t.bytes_in t.fills; fits = t.fits; are_bytes = t.bytes_in } in
+    subst (λ x. IsUpItem true x bytes) m.1 (frame_item m.0.0 m.0.1 bytes is)
 
 pub up_fills : (after_login : Bool) (v : UpValue) (bytes : List ℕ) → IsUpItem after_login v bytes → Fills (up_rows after_login) v bytes
 up_fills false (login imei) bytes is = login_fills imei bytes is
 up_fills false (packet head body) bytes is = absurd is
+up_fills false (response body) bytes is = absurd is
 up_fills true (login imei) bytes is = absurd is
-up_fills true (packet head body) bytes is = frame_fills head body bytes is
+up_fills true (packet head body) bytes is = frame_fills (Packet head) body bytes is
+up_fills true (response body) bytes is = frame_fills Command body bytes is
 
 pub filled_up : (after_login : Bool) (v : UpValue) (bytes : List ℕ) → AreBytes bytes → Fills (up_rows after_login) v bytes → IsUpItem after_login v bytes
 filled_up false v bytes p fills = let t = login_taken v bytes p fills in subst (λ x. IsUpItem false x bytes) (sym t.value) t.is

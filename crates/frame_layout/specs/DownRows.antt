@@ -1,28 +1,27 @@
--- The rows of a stream down: the login's answer, and then counts (Teltonika, Data Sending Protocols, "Codec 8 protocol sending
--- over TCP"). Places are counted from an item's first byte.
-use Rattle.std.specs.Prelude.{ℕ, ◌&&◌, ◌==◌, nat_le, Bool, true, false, List, Some, None, if◌then◌else◌}
-use Rattle.avl_values.specs.declared.fault.FaultKind.TheVariants.{Length, UnknownCodec}
-use Rattle.layout.specs.Rows.{Rows, done, refuse, Verdict, judge, body}
-use Rattle.layout.specs.Fields.{fault_unless, number_row}
-use Rattle.frame_layout.specs.Values.{DownValue, answer, count}
+-- The rows of a stream down: the login's answer, and then counts and frames of commands (Teltonika, Data Sending Protocols,
+-- "Codec 8 protocol sending over TCP", Codec 12 and Codec 14). Places are counted from an item's first byte.
+use Rattle.std.specs.Prelude.{ℕ, ◌==◌, Bool, true, false, List, None, if◌then◌else◌}
+use Rattle.layout.specs.Rows.{Rows, done, Verdict, judge}
+use Rattle.layout.specs.Fields.{number_row}
+use Rattle.command_layout.specs.declared.way.Way.TheVariants.{Down}
+use Rattle.frame_layout.specs.EitherRows.{map_value}
+use Rattle.frame_layout.specs.FrameBodies.{body_kind_rows, longest_body}
+use Rattle.frame_layout.specs.FrameRows.{length_rows}
+use Rattle.frame_layout.specs.Values.{DownValue, answer, count, order}
 
 -- one byte, of any value
 unfoldable pub answer_rows : Rows DownValue
 answer_rows = number_row 1 (λ _. None) (λ n. done (answer n))
 
--- a command's body: so far no codec of commands is known
+-- the frame of a command, behind its four zero bytes
 unfoldable pub order_rows : Rows DownValue
-order_rows = number_row 1 (λ _. Some UnknownCodec) (λ _. refuse UnknownCodec)
+order_rows = map_value (λ f. order f.1) (length_rows (longest_body Down) (body_kind_rows Down))
 
--- behind four zero bytes: a command's length, and its body
-unfoldable pub order_length_rows : Rows DownValue
-order_length_rows = number_row 4 (λ n. fault_unless (nat_le 3 n && nat_le n 1268) Length) (λ n. body n order_rows)
-
--- a number of records that isn't 0; four zero bytes begin a command
+-- a number of records that isn't 0; four zero bytes begin the frame of a command
 unfoldable pub count_rows : Rows DownValue
-count_rows = number_row 4 (λ _. None) (λ n. if n == 0 then order_length_rows else done (count n))
+count_rows = number_row 4 (λ _. None) (λ n. if n == 0 then order_rows else done (count n))
 
--- the item at a place of the stream: the login's answer at the first, and then counts
+-- the item at a place of the stream: the login's answer at the first, and then counts and frames
 abbrev pub down_rows : Bool → Rows DownValue
 down_rows false = answer_rows
 down_rows true = count_rows

@@ -1,5 +1,6 @@
 -- The rows of a frame (Teltonika, Data Sending Protocols: preamble, data field length, data, CRC-16; the order in which they
--- are judged is this project's own). The checksum is taken from the codec id to the last byte of the data.
+-- are judged is this project's own). The checksum is taken from the codec id to the last byte of the data. A frame says what
+-- its body says, and the body. The rows of a body may depend on its length.
 use Rattle.std.specs.Prelude.{ℕ, ◌&&◌, ◌==◌, nat_le, List, []}
 use Rattle.avl_values.specs.declared.fault.FaultKind.TheVariants.{Preamble, Length, CrcHigh, CrcMismatch}
 use Rattle.crc_field.specs.Crc.{crc_of}
@@ -16,13 +17,13 @@ abbrev pub crc_rows : {V : Type 0} → V → ℕ → Rows V
 crc_rows v crc = number_row 2 (λ n. fault_unless (n == 0) CrcHigh) (λ _. crc_low_rows v crc)
 
 -- a body of so many bytes, and its checksum
-unfoldable pub body_rows : {B V : Type 0} → Rows B → (B → List ℕ → V) → ℕ → Rows V
-body_rows rows says n = within n (with_bytes [] rows) (λ b. crc_rows (says b.0 b.1) (crc_of b.1))
+unfoldable pub body_rows : {B : Type 0} → (ℕ → Rows B) → ℕ → Rows (B × List ℕ)
+body_rows rows n = within n (with_bytes [] (rows n)) (λ b. crc_rows b (crc_of b.1))
 
 -- the body's length, which is at least 3 and has a limit
-unfoldable pub length_rows : {B V : Type 0} → ℕ → Rows B → (B → List ℕ → V) → Rows V
-length_rows most rows says = number_row 4 (λ n. fault_unless (nat_le 3 n && nat_le n most) Length) (λ n. body_rows rows says n)
+unfoldable pub length_rows : {B : Type 0} → ℕ → (ℕ → Rows B) → Rows (B × List ℕ)
+length_rows most rows = number_row 4 (λ n. fault_unless (nat_le 3 n && nat_le n most) Length) (λ n. body_rows rows n)
 
 -- four zero bytes, the body's length, the body and its checksum
-unfoldable pub frame_rows : {B V : Type 0} → ℕ → Rows B → (B → List ℕ → V) → Rows V
-frame_rows most rows says = number_row 4 (λ n. fault_unless (n == 0) Preamble) (λ _. length_rows most rows says)
+unfoldable pub frame_rows : {B : Type 0} → ℕ → (ℕ → Rows B) → Rows (B × List ℕ)
+frame_rows most rows = number_row 4 (λ n. fault_unless (n == 0) Preamble) (λ _. length_rows most rows)

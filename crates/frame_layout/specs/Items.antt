@@ -1,5 +1,5 @@
--- The items of a TCP connection as whole lists of bytes (Teltonika, Data Sending Protocols, "Codec 8 protocol sending over TCP";
--- the limits of lengths are this project's own).
+-- The items of a TCP connection as whole lists of bytes (Teltonika, Data Sending Protocols, "Codec 8 protocol sending over TCP"
+-- and Codecs 12 to 15; the limits of lengths are this project's own).
 use Rattle.std.specs.Prelude.{◌≡◌, ℕ, ◌<◌, ◌≤◌, ◌^◌, Bool, true, false, List, [], ◌∷◌, ◌++◌, length}
 use Rattle.std.specs.Int.{to_be_bytes, w16, w32}
 use Rattle.avl_values.specs.Imei.{imei_text}
@@ -7,7 +7,14 @@ use Rattle.crc_field.specs.Crc.{crc_of}
 use Rattle.layout.specs.Bytes.{AreBytes}
 use Rattle.record_layout.specs.declared.head.PacketHead.{PacketHead}
 use Rattle.record_layout.specs.Packet.{IsPacket}
-use Rattle.frame_layout.specs.Values.{UpValue, login, packet, DownValue, answer, count}
+use Rattle.command_layout.specs.declared.way.Way.{Way}
+use Rattle.command_layout.specs.declared.way.Way.TheVariants.{Up, Down}
+use Rattle.command_layout.specs.Spelling.{IsCommand}
+use Rattle.command_layout.specs.Values.{CommandValue}
+use Rattle.frame_layout.specs.FrameBodies.{longest_body}
+use Rattle.frame_layout.specs.Values.{UpValue, login, packet, response, DownValue, answer, count, order}
+use Rattle.frame_layout.specs.declared.body_kind.BodyKind.{BodyKind}
+use Rattle.frame_layout.specs.declared.body_kind.BodyKind.TheVariants.{Packet, Command}
 
 -- the length 15 in two bytes, and the 15 digits
 abbrev pub login_of : ℕ → List ℕ
@@ -27,16 +34,23 @@ pub record IsBody (head : PacketHead) (body : List ℕ) : Type 0 where
   pub packet : IsPacket head.codec records body
   pub count : head.count ≡ length records
 
+-- these bytes are a body that may pass this way: a data body up, or a command of that way
+abbrev pub IsFrameBody : Way → BodyKind → List ℕ → Type 0
+IsFrameBody Up (Packet head) body = IsBody head body
+IsFrameBody Down (Packet head) body = ⊥
+IsFrameBody Up Command body = (value : CommandValue) × IsCommand Up value body
+IsFrameBody Down Command body = (value : CommandValue) × IsCommand Down value body
+
 -- these bytes are the login of this IMEI
 pub record IsLogin (imei : ℕ) (bytes : List ℕ) : Type 0 where
   pub is : bytes ≡ login_of imei
   pub digits : imei < 10 ^ 15
 
--- these bytes are the frame of this data body
-pub record IsFrame (head : PacketHead) (body bytes : List ℕ) : Type 0 where
+-- these bytes are the frame of this body, which may pass this way
+pub record IsFrame (way : Way) (kind : BodyKind) (body bytes : List ℕ) : Type 0 where
   pub is : bytes ≡ frame_of body
-  pub of_body : IsBody head body
-  pub fits : length body ≤ 65535
+  pub of_body : IsFrameBody way kind body
+  pub fits : length body ≤ longest_body way
   pub are_bytes : AreBytes body
 
 -- these bytes are the login's answer
@@ -54,12 +68,16 @@ pub record IsCount (n : ℕ) (bytes : List ℕ) : Type 0 where
 abbrev pub IsUpItem : Bool → UpValue → List ℕ → Type 0
 IsUpItem false (login imei) bytes = IsLogin imei bytes
 IsUpItem false (packet head body) bytes = ⊥
+IsUpItem false (response body) bytes = ⊥
 IsUpItem true (login imei) bytes = ⊥
-IsUpItem true (packet head body) bytes = IsFrame head body bytes
+IsUpItem true (packet head body) bytes = IsFrame Up (Packet head) body bytes
+IsUpItem true (response body) bytes = IsFrame Up Command body bytes
 
--- The items down: the answer stands only at the first place, and counts only behind it.
+-- The items down: the answer stands only at the first place, and counts and frames only behind it.
 abbrev pub IsDownItem : Bool → DownValue → List ℕ → Type 0
 IsDownItem false (answer n) bytes = IsAnswer n bytes
 IsDownItem false (count n) bytes = ⊥
+IsDownItem false (order body) bytes = ⊥
 IsDownItem true (answer n) bytes = ⊥
 IsDownItem true (count n) bytes = IsCount n bytes
+IsDownItem true (order body) bytes = IsFrame Down Command body bytes

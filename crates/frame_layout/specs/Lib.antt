@@ -1,6 +1,9 @@
 pub mod DownRows
+pub mod EitherRows
+pub mod FrameBodies
 pub mod FrameRows
 pub mod Items
 pub mod Laws
+pub mod Logins
 pub mod UpRows
 pub mod Values

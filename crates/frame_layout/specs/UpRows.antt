@@ -1,31 +1,26 @@
--- The rows of a stream up: a login, and then data frames (Teltonika, Data Sending Protocols, "Codec 8 protocol sending over
--- TCP"). Places are counted from an item's first byte.
-use Rattle.std.specs.Prelude.{ℕ, zero, suc, ◌+◌, ◌-◌, ◌*◌, ◌==◌, Bool, true, false, List}
-use Rattle.avl_values.specs.Imei.{is_digit}
-use Rattle.avl_values.specs.declared.fault.FaultKind.TheVariants.{LoginLength, LoginDigit}
+-- The rows of a stream up: a login, and then frames of data bodies and of responses (Teltonika, Data Sending Protocols, "Codec 8
+-- protocol sending over TCP" and Codecs 12 to 15). Places are counted from an item's first byte.
+use Rattle.std.specs.Prelude.{ℕ, Bool, true, false, List}
 use Rattle.layout.specs.Rows.{Rows, done, Verdict, judge}
-use Rattle.layout.specs.Fields.{fault_unless, number_row}
-use Rattle.record_layout.specs.PacketRows.{packet_rows}
+use Rattle.command_layout.specs.declared.way.Way.TheVariants.{Up}
+use Rattle.frame_layout.specs.EitherRows.{map_value}
+use Rattle.frame_layout.specs.FrameBodies.{body_kind_rows, longest_body}
 use Rattle.frame_layout.specs.FrameRows.{frame_rows}
-use Rattle.frame_layout.specs.Values.{UpValue, login, packet}
+use Rattle.frame_layout.specs.Logins.{login_rows}
+use Rattle.frame_layout.specs.Values.{UpValue, login, frame_value}
 
--- so many digits, behind those that spell a number
-unfoldable pub digit_rows : ℕ → ℕ → Rows UpValue
-digit_rows zero n = done (login n)
-digit_rows (suc k) n = number_row 1 (λ b. fault_unless (is_digit b) LoginDigit) (λ b. digit_rows k (n * 10 + (b - 48)))
+-- behind the digits of a login there is nothing more
+abbrev pub login_end : ℕ → Rows UpValue
+login_end imei = done (login imei)
 
--- the length 15, and the 15 digits of the IMEI
-unfoldable pub login_rows : Rows UpValue
-login_rows = number_row 2 (λ n. fault_unless (n == 15) LoginLength) (λ _. digit_rows 15 0)
-
--- a frame of a data body
-unfoldable pub data_frame_rows : Rows UpValue
-data_frame_rows = frame_rows 65535 packet_rows packet
+-- a frame of a data body or of a response
+unfoldable pub up_frame_rows : Rows UpValue
+up_frame_rows = map_value (λ f. frame_value f.0 f.1) (frame_rows (longest_body Up) (body_kind_rows Up))
 
 -- the item at a place of the stream: a login at the first, and then frames
 abbrev pub up_rows : Bool → Rows UpValue
-up_rows false = login_rows
-up_rows true = data_frame_rows
+up_rows false = login_rows login_end
+up_rows true = up_frame_rows
 
 -- the verdict on bytes before the login or after it
 abbrev pub up_verdict : Bool → List ℕ → Verdict UpValue

@@ -1,7 +1,8 @@
 //! The laws of the items of a connection, each as the contract of a function that does nothing.
 ghost use Rattle.frame_layout.specs.Laws.{DownItemIsWhole, DownVerdictStays, NoDownItemBeginsAnother, NoUpItemBeginsAnother, UpItemIsWhole, UpVerdictStays, WholeIsDownItem, WholeIsUpItem};
 
-/// A whole verdict up says that the first bytes are a login at the first place, and the frame of a data body behind it.
+/// A whole verdict up says that the first bytes are a login at the first place, and behind it the frame of a data body or of a
+/// response.
 pub fn whole_is_up_item()
     ensures { WholeIsUpItem }
 {}
@@ -21,12 +22,13 @@ pub fn no_up_item_begins_another()
     ensures { NoUpItemBeginsAnother }
 {}
 
-/// A whole verdict down says that the first bytes are the login's answer at the first place, and a count behind it.
+/// A whole verdict down says that the first bytes are the login's answer at the first place, and behind it a count or the frame
+/// of a command.
 pub fn whole_is_down_item()
     ensures { WholeIsDownItem }
 {}
 
-/// An answer's and a count's verdict is whole, whatever bytes follow.
+/// An answer's, a count's and a frame's verdict is whole, whatever bytes follow.
 pub fn down_item_is_whole()
     ensures { DownItemIsWhole }
 {}

@@ -1,11 +1,13 @@
-//! The items of a TCP connection: logins and data frames up, the login's answer and counts down. Each is given as rows, for the
-//! verdict on any bytes, and as the list of bytes that it is, with the laws between both; and the writers of those that are
-//! sent.
+//! The items of a TCP connection: logins and the frames of data bodies and responses up, the login's answer, counts and the
+//! frames of commands down. Each is given as rows, for the verdict on any bytes, and as the list of bytes that it is, with the
+//! laws between both; and the writers of those that are sent.
 #![tactic(auto)]
 
+mod body_kind;
 mod laws;
 mod writing;
 
+pub use body_kind::BodyKind;
 pub use laws::{
     down_item_is_whole, down_verdict_stays, no_down_item_begins_another, no_up_item_begins_another,
     up_item_is_whole, up_verdict_stays, whole_is_down_item, whole_is_up_item,

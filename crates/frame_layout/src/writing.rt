@@ -1,18 +1,26 @@
-ghost use Rattle.std.specs.Prelude.{◌≡◌, ◌<◌, ◌≤◌, ◌^◌, length};
+ghost use Rattle.std.specs.Prelude.{◌≡◌, ◌<◌, ◌≤◌, ◌^◌, length, true};
 ghost use Rattle.record_layout.specs.declared.head.PacketHead.{PacketHead};
-ghost use Rattle.frame_layout.specs.Items.{IsBody, IsCount, IsFrame, IsLogin, frame_of};
+ghost use Rattle.command_layout.specs.declared.way.Way.{Way};
+ghost use Rattle.command_layout.specs.declared.way.Way.TheVariants.{Up, Down};
+ghost use Rattle.command_layout.specs.Spelling.{IsCommand};
+ghost use Rattle.command_layout.specs.Values.{CommandValue};
+ghost use Rattle.frame_layout.specs.Items.{IsBody, IsCount, IsDownItem, IsFrameBody, IsLogin, IsUpItem, frame_of};
+ghost use Rattle.frame_layout.specs.Values.{order, packet, response};
+ghost use Rattle.frame_layout.specs.declared.body_kind.BodyKind.{BodyKind};
 
 use arrayvec::ArrayVec;
 use avl_values::Imei;
 use crc_field::crc;
 
-/// Writes the frame of a data body over what stood in `out`: four zero bytes, the body's length, the body, and its checksum.
-/// The body has at most 1,268 bytes.
+/// Writes the frame of a data body, or of a command's body of one of the two ways, over what stood in `out`: four zero bytes,
+/// the body's length, the body, and its checksum. The body has at most 1,268 bytes.
 pub fn write_frame(body: &[u8], out: &mut ArrayVec<u8, 1280>)
-    requires packet { (head : PacketHead) × IsBody head body.now }
+    requires passes { (way : Way) × (kind : BodyKind) × IsFrameBody way kind body.now }
     requires fits { length body.now ≤ 1268 }
     ensures bytes { out.new.items ≡ frame_of body.now }
-    ensures frame { (head : PacketHead) → IsBody head body.now → IsFrame head body.now out.new.items }
+    ensures packet { (head : PacketHead) → IsBody head body.now → IsUpItem true (packet head body.now) out.new.items }
+    ensures response { (value : CommandValue) → IsCommand Up value body.now → IsUpItem true (response body.now) out.new.items }
+    ensures order { (value : CommandValue) → IsCommand Down value body.now → IsDownItem true (order body.now) out.new.items }
 {
     out.clear();
     let _preamble = out.try_extend_from_slice(&[0; 4]);
