@@ -1,5 +1,5 @@
 -- Texts that JSON writes as they are.
-use Rattle.std.proofs.Common.{◌≡◌, ◌≢◌, ◌==◌, ◌&&◌, Bool, true, not, nat_le, length, ◌<◌, ◌≤◌, ◌+◌, ◌/◌, ◌%◌, ◌∙◌, ℕ, zero, suc, List, [], ◌∷◌, ◌++◌, arith, ap, sym, ne_eqb, le-ltb, refl, nat_lt, false}
+use Rattle.std.proofs.Common.{◌≡◌, ◌≢◌, ◌==◌, ◌&&◌, Bool, true, not, nat_le, length, ◌<◌, ◌≤◌, ◌+◌, ◌/◌, ◌%◌, ◌∙◌, ℕ, zero, suc, List, [], ◌∷◌, ◌++◌, arith, ap, ne_eqb, le-ltb, refl, nat_lt, false}
 use Rattle.std.proofs.lemmas.Str.Ascii.{IsAscii-nil, IsAscii-push}
 use Rattle.std.proofs.lemmas.Bool.Decides.{nat_tests}
 use Rattle.std.specs.List.{list_all, slice_index}

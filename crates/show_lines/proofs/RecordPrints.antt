@@ -1,5 +1,5 @@
 -- The tokens of a record are printed as its text.
-use Rattle.std.proofs.Common.{◌≡◌, ℕ, List, [], ◌∷◌, ◌++◌, map, codes, decimal, true, false, refl, ap, sym, ◌∙◌, append_assoc, subst, length, ◌<◌}
+use Rattle.std.proofs.Common.{◌≡◌, ℕ, List, [], ◌∷◌, ◌++◌, map, codes, decimal, true, false, ap, sym, ◌∙◌, append_assoc, subst, length, ◌<◌}
 use Rattle.std.specs.Fmt.{signed_decimal}
 use Rattle.std.specs.List.{AllByRecursion, concat}
 use Rattle.hex.specs.Hex.{encode_lower}

@@ -1,6 +1,6 @@
 -- A record's value, read from its bytes (Teltonika, Data Sending Protocols, AVL data). Of bytes that are no record this says nothing
 -- of use.
-use Rattle.std.specs.Prelude.{ℕ, List, take, drop}
+use Rattle.std.specs.Prelude.{ℕ, List, drop}
 use Rattle.std.specs.Int.{w16, w32, cast_signed}
 use Rattle.avl_values.specs.RecordValue.{RecordValue, pairs_of}
 use Rattle.avl_values.specs.declared.codec.Codec.{Codec}

@@ -81,31 +81,14 @@ fn items_take_one_line(rt: HostRuntime) -> Result<(), Fail> {
     Ok(())
 }
 
-/// `getinfo` of Codec 12, `getver` of Codec 14 for a device, and a message of Codec 15.
-fn commands() -> Result<[Command<'static>; 3], Fail> {
-    Ok([
-        Command {
-            codec: 12,
-            kind: 5,
-            time: None,
-            imei: None,
-            text: b"getinfo",
-        },
-        Command {
-            codec: 14,
-            kind: 5,
-            time: None,
-            imei: Some(imei(352_093_081_452_251)?),
-            text: b"getver",
-        },
-        Command {
-            codec: 15,
-            kind: 11,
-            time: Some(16),
-            imei: Some(imei(1)?),
-            text: b"",
-        },
-    ])
+/// A command as its codec id, type, time, IMEI and text: `getinfo` of Codec 12, `getver` of Codec 14 for a device, and an empty
+/// message of Codec 15.
+fn commands() -> [(u8, u8, Option<u32>, Option<u64>, &'static [u8]); 3] {
+    [
+        (12, 5, None, None, b"getinfo"),
+        (14, 5, None, Some(352_093_081_452_251), b"getver"),
+        (15, 11, Some(16), Some(1), b""),
+    ]
 }
 
 fn command_lines() -> &'static str {
@@ -119,8 +102,15 @@ fn command_lines() -> &'static str {
 #[test]
 fn commands_take_one_line(rt: HostRuntime) -> Result<(), Fail> {
     let mut out = Vec::new(rt.alloc());
-    for command in &commands()? {
-        push_command_line(&mut out, command, 1)?;
+    for (codec, kind, time, number, text) in &commands() {
+        let command = Command {
+            codec: *codec,
+            kind: *kind,
+            time: *time,
+            imei: number.and_then(Imei::from_number),
+            text,
+        };
+        push_command_line(&mut out, &command, 1)?;
     }
     assert_eq!(rt; out.as_slice(), command_lines().as_bytes());
     Ok(())

@@ -1,8 +1,7 @@
 use Rattle.std.proofs.Common.{◌++◌, ap, sym, ◌∙◌, subst}
-use Rattle.std.proofs.lemmas.Result.{on_err_weaker}
 use Rattle.record_codecs.specs.Views.{records_left}
 use Rattle.show_lines.specs.PacketLines.{packet_lines}
-use Rattle.show_lines.proofs.PacketPushed.{Missing, all_missing, extends_as, extends_more, none_missing, one_less}
+use Rattle.show_lines.proofs.PacketPushed.{Missing, all_missing, extends_more, one_less}
 use Rattle.show_lines.proofs.packet.push_all.Goals as goal
 
 pub loop-record-init : goal.loop-record-init
