@@ -1,4 +1,5 @@
 pub mod Escapes
+mod Examples
 pub mod ItemPrints
 pub mod Lists
 pub mod ListsSent
