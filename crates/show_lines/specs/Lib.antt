@@ -1,0 +1,10 @@
+pub mod Extends
+pub mod ItemTexts
+pub mod Json
+pub mod Laws
+pub mod Lines
+pub mod PacketLines
+pub mod RecordText
+pub mod RecordValues
+pub mod Sent
+pub mod Tokens
