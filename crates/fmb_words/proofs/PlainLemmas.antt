@@ -1,0 +1,65 @@
+-- What clap makes of a word that isn't empty and doesn't begin with a hyphen.
+use Rattle.std.proofs.Common.{◌≡◌, false, true, List, [], ◌∷◌, Some, None, refl, codes, ne_eqb}
+use Rattle.std.specs.Str.{bytes_eq}
+use Rattle.clap.specs.Lexer.{short_of, strip_byte}
+use Rattle.clap.specs.Words.{Text, fault_of, first_of, is_simple, is_simple_and_free, matches_of}
+use Rattle.clap.specs.declared.error.kind.ErrorKind.TheVariants.{UnknownArgument, MissingRequiredArgument}
+use Rattle.clap.proofs.OnLiterals.{clap_on_literals}
+use Rattle.fmb_words.specs.FileCommand.{file_app}
+use Rattle.fmb_words.specs.PlainWords.{IsPlainWord}
+
+pub no_hyphen : (w : Text) → IsPlainWord w → strip_byte 45 w ≡ None
+no_hyphen [] h = absurd h
+no_hyphen (x ∷ xs) h = rw (ne_eqb x 45 h) refl
+
+pub no_dashes : (w : Text) → IsPlainWord w → bytes_eq w (45 ∷ 45 ∷ []) ≡ false
+no_dashes [] h = absurd h
+no_dashes (x ∷ xs) h = rw (ne_eqb x 45 h) refl
+
+pub no_short : (w : Text) → IsPlainWord w → short_of w ≡ None
+no_short w h = rw (no_hyphen w h) refl
+
+-- the command behind a word's name is one whose parse is told whole
+pub file_is_plain : (name : Text) → is_simple (file_app name) ≡ true
+unfolding file_app clap_on_literals
+file_is_plain name = refl
+
+pub file_is_free : (name : Text) → is_simple_and_free (file_app name) ≡ true
+unfolding file_app clap_on_literals
+file_is_free name = refl
+
+-- a plain file is taken
+pub file_taken : (name command w : Text) → IsPlainWord w → fault_of (file_app name) (command ∷ w ∷ []) ≡ []
+unfolding file_app clap_on_literals
+file_taken name command w h = rw (no_hyphen w h, no_dashes w h, no_short w h) (refl {a = []})
+
+pub file_read : (name command w : Text) → IsPlainWord w → first_of (codes "FILE") (matches_of (file_app name) (command ∷ w ∷ [])) ≡ Some w
+unfolding file_app clap_on_literals
+file_read name command w h = rw (no_hyphen w h, no_dashes w h, no_short w h) (refl {a = Some w})
+
+-- no file is refused
+pub missing_refused : (name command : Text) → fault_of (file_app name) (command ∷ []) ≡ MissingRequiredArgument ∷ []
+unfolding file_app clap_on_literals
+missing_refused name command = refl
+
+-- and so are a second one, and help, whatever follows
+pub second_refused : (name command w v : Text) (rest : List Text) → IsPlainWord w → IsPlainWord v
+    → fault_of (file_app name) (command ∷ w ∷ v ∷ rest) ≡ UnknownArgument ∷ []
+unfolding file_app clap_on_literals
+second_refused name command w v rest h k = rw (no_hyphen w h, no_dashes w h, no_short w h, no_hyphen v k, no_dashes v k, no_short v k) refl
+
+pub help_refused : (name command : Text) (rest : List Text) → fault_of (file_app name) (command ∷ codes "--help" ∷ rest) ≡ UnknownArgument ∷ []
+unfolding file_app clap_on_literals
+help_refused name command rest = refl
+
+pub short_help_refused : (name command : Text) (rest : List Text) → fault_of (file_app name) (command ∷ codes "-h" ∷ rest) ≡ UnknownArgument ∷ []
+unfolding file_app clap_on_literals
+short_help_refused name command rest = refl
+
+pub later_help_refused : (name command w : Text) (rest : List Text) → IsPlainWord w → fault_of (file_app name) (command ∷ w ∷ codes "--help" ∷ rest) ≡ UnknownArgument ∷ []
+unfolding file_app clap_on_literals
+later_help_refused name command w rest h = rw (no_hyphen w h, no_dashes w h, no_short w h) refl
+
+pub later_short_help_refused : (name command w : Text) (rest : List Text) → IsPlainWord w → fault_of (file_app name) (command ∷ w ∷ codes "-h" ∷ rest) ≡ UnknownArgument ∷ []
+unfolding file_app clap_on_literals
+later_short_help_refused name command w rest h = rw (no_hyphen w h, no_dashes w h, no_short w h) refl

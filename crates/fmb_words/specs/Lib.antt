@@ -1,0 +1,5 @@
+pub mod FileCommand
+pub mod Laws
+pub mod PlainWords
+pub mod Values
+pub mod Words

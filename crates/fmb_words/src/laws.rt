@@ -1,0 +1,27 @@
+//! The laws of lists of words, each as the contract of a function that does nothing.
+ghost use Rattle.fmb_words.specs.Laws.{HelpIsRefused, NoFileIsRefused, OtherCommandIsRefused, PlainFileIsTaken, SecondFileIsRefused};
+
+/// `show W` and `trial W`, where W is neither empty nor begins with a hyphen, ask for that command with the file W.
+pub fn plain_file_is_taken()
+    ensures { PlainFileIsTaken }
+{}
+
+/// No words are refused, and so is a first word that names no command.
+pub fn other_command_is_refused()
+    ensures { OtherCommandIsRefused }
+{}
+
+/// A command's word alone is refused.
+pub fn no_file_is_refused()
+    ensures { NoFileIsRefused }
+{}
+
+/// Two files are refused.
+pub fn second_file_is_refused()
+    ensures { SecondFileIsRefused }
+{}
+
+/// `--help` and `-h` are refused words.
+pub fn help_is_refused()
+    ensures { HelpIsRefused }
+{}

@@ -1,0 +1,17 @@
+//! The words that the program is started with: which command they name, and its arguments, by clap.
+#![tactic(auto)]
+
+mod fault;
+mod file_word;
+mod laws;
+mod words;
+
+pub use fault::WordsFault;
+pub use laws::{
+    help_is_refused, no_file_is_refused, other_command_is_refused, plain_file_is_taken,
+    second_file_is_refused,
+};
+pub use words::{Words, read_words};
+
+#[cfg(test)]
+mod tests;
