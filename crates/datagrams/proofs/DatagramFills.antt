@@ -1,15 +1,12 @@
 -- Datagrams and what fills their rows.
-use Rattle.std.proofs.Common.{◌≡◌, ℕ, zero, suc, ◌+◌, ◌/◌, ◌%◌, ◌<◌, ◌≤◌, ◌^◌, ◌==◌, List, [], ◌∷◌, ◌++◌, length, refl, sym, ap, subst, ◌∙◌, arith, length-append}
-use Rattle.std.proofs.lemmas.List.{append-nil}
+use Rattle.std.proofs.Common.{◌≡◌, ℕ, zero, suc, ◌+◌, ◌/◌, ◌%◌, ◌==◌, List, [], ◌∷◌, ◌++◌, length, refl, sym, ap, subst, ◌∙◌, arith, length-append}
 use Rattle.std.specs.Int.{bytes_high_first}
 use Rattle.avl_values.specs.Imei.{decimal_places, imei_text}
 use Rattle.avl_values.specs.declared.fault.FaultKind.TheVariants.{DatagramLength}
 use Rattle.layout.specs.Bytes.{AreBytes}
-use Rattle.layout.specs.Fields.{followed_by}
 use Rattle.layout.specs.Nested.{with_bytes}
-use Rattle.layout.specs.Rows.{Rows, done, Fills}
-use Rattle.layout.proofs.Filling.{fills_done, done_filled}
-use Rattle.layout.proofs.Numbers.{bytes-front, length_spell}
+use Rattle.layout.specs.Rows.{Rows, Fills}
+use Rattle.layout.proofs.Numbers.{length_spell}
 use Rattle.record_layout.specs.PacketRows.{packet_rows}
 use Rattle.record_layout.specs.declared.head.PacketHead.{PacketHead}
 use Rattle.record_layout.proofs.Fitting.{exactly, is_exactly}

@@ -1,5 +1,5 @@
 -- Replies and what fills their rows.
-use Rattle.std.proofs.Common.{◌≡◌, ℕ, ◌+◌, ◌<◌, ◌≤◌, ◌^◌, ◌==◌, ◌&&◌, List, [], ◌∷◌, ◌++◌, true, length, None, refl, sym, ap, subst, ◌∙◌, arith}
+use Rattle.std.proofs.Common.{◌≡◌, ℕ, ◌==◌, ◌&&◌, List, [], ◌∷◌, ◌++◌, true, length, None, refl, sym, ap, subst, ◌∙◌, arith}
 use Rattle.std.proofs.lemmas.Bool.Decides.{nat_tests}
 use Rattle.std.specs.Int.{bytes_high_first}
 use Rattle.avl_values.specs.declared.fault.FaultKind.TheVariants.{DatagramLength}
@@ -9,7 +9,7 @@ use Rattle.layout.specs.Rows.{Rows, done, Fills}
 use Rattle.layout.proofs.Filling.{fills_done, done_filled}
 use Rattle.record_layout.proofs.Fitting.{passed}
 use Rattle.datagrams.specs.DatagramRows.{any_number, numbers_rows, reply_rows}
-use Rattle.datagrams.specs.Items.{IsReply, reply_of}
+use Rattle.datagrams.specs.Items.{IsReply}
 use Rattle.datagrams.specs.Values.{ReplyValue}
 use Rattle.datagrams.proofs.NumbersFills.{byte_fill, byte_take, length_fill, length_take, numbers_fill, numbers_take}
 
