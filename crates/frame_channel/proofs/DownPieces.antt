@@ -5,7 +5,7 @@ use Rattle.layout.specs.Rows.{short}
 use Rattle.frame_layout.specs.DownRows.{down_verdict}
 use Rattle.frame_channel.specs.DownPushes.{IsAtPlace, Pushed, PushedByte, DownState, item_verdict, state_after}
 use Rattle.frame_channel.specs.declared.down_item.DownItem.{DownItem}
-use Rattle.frame_channel.specs.declared.down_item.DownItem.TheVariants.{More, Login, Count, Broken}
+use Rattle.frame_channel.specs.declared.down_item.DownItem.TheVariants.{More, Login, Count, Order, Broken}
 
 abbrev pub holding : DownState → List ℕ → DownState
 holding old have = record old { have = have }
@@ -33,6 +33,7 @@ same_state : (old : DownState) (have bytes : List ℕ) (item : DownItem) → sta
 same_state old have bytes More = refl
 same_state old have bytes (Login n) = refl
 same_state old have bytes (Count n) = refl
+same_state old have bytes Order = refl
 same_state old have bytes (Broken found) = refl
 
 -- the next byte and its answer

@@ -1,15 +1,16 @@
 -- What a reader of a stream down has read.
-use Rattle.std.proofs.Common.{◌≡◌, Bool, true, [], ◌∷◌, ◌++◌, length, take, refl, sym, ap, subst, ◌∙◌}
+use Rattle.std.proofs.Common.{◌≡◌, Bool, true, List, ℕ, [], ◌∷◌, ◌++◌, length, take, refl, sym, ap, subst, ◌∙◌}
 use Rattle.layout.specs.Rows.{Verdict, judge}
 use Rattle.item_streams.specs.Laws.{AreStreamRows}
 use Rattle.item_streams.specs.Streams.{IsNotWhole, Item}
 use Rattle.item_streams.proofs.StreamLaws.{nothing_read}
 use Rattle.frame_layout.specs.DownRows.{down_rows}
-use Rattle.frame_layout.specs.Values.{DownValue, answer, count}
+use Rattle.frame_layout.specs.Values.{DownValue, answer, count, order}
 use Rattle.frame_layout.proofs.Lengths.{starts_short_down}
+use Rattle.frame_channel.specs.BodyIn.{body_in}
 use Rattle.frame_channel.specs.DownPushes.{DownState}
 use Rattle.frame_channel.specs.DownReadings.{HasRead, DownPushesRead}
-use Rattle.frame_channel.specs.declared.down_item.DownItem.TheVariants.{More, Login, Count, Broken}
+use Rattle.frame_channel.specs.declared.down_item.DownItem.TheVariants.{More, Login, Count, Order, Broken}
 use Rattle.frame_channel.proofs.StreamSteps.{later_place, rest_completes, rest_grows, same_place}
 
 pub down_begins : (after_answer : Bool) → AreStreamRows (down_rows after_answer) (down_rows true)
@@ -51,4 +52,13 @@ pushes_read after_answer bytes items old new piece n (Count k) has p =
       is = rest_completes (down_rows after_answer) (down_rows true) (down_rows old.after_answer) (count k) bytes (take n piece) old.have items (down_begins after_answer) has.is has.place p.verdict
           ∙ ap (λ h. record { items = items ++ item ∷ []; rest = h }) (sym (ap (λ (s : DownState). s.have) p.state));
       place = later_place (down_rows after_answer) (down_rows true) items item ∙ ap down_rows (sym (ap (λ (s : DownState). s.after_answer) p.state));
+    }
+pushes_read after_answer bytes items old new piece n Order has p =
+    let item : List ℕ → Item DownValue = λ body. record { value = order body; end = length (bytes ++ take n piece) } in
+    let body : body_in (old.have ++ take n piece) ≡ new.body = sym (ap (λ (s : DownState). s.body) p.state) in
+    record {
+      is = rest_completes (down_rows after_answer) (down_rows true) (down_rows old.after_answer) (order (body_in (old.have ++ take n piece))) bytes (take n piece) old.have items (down_begins after_answer) has.is has.place p.verdict
+          ∙ ap (λ b. record { items = items ++ item b ∷ []; rest = [] }) body
+          ∙ ap (λ h. record { items = items ++ item new.body ∷ []; rest = h }) (sym (ap (λ (s : DownState). s.have) p.state));
+      place = later_place (down_rows after_answer) (down_rows true) items (item new.body) ∙ ap down_rows (sym (ap (λ (s : DownState). s.after_answer) p.state));
     }

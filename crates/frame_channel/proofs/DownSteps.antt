@@ -1,73 +1,202 @@
 -- An item down, byte by byte.
-use Rattle.std.proofs.Common.{◌≡◌, ℕ, ◌<◌, Bool, true, false, List, [], ◌∷◌, ◌++◌, length, Some, refl, ap, arith}
+use Rattle.std.proofs.Common.{◌≡◌, ℕ, ◌<◌, ◌==◌, inl, inr, Bool, true, false, List, [], ◌∷◌, ◌++◌, length, take, Some, None, refl, sym, ap, subst, ◌∙◌, arith, append_assoc, if◌then◌else◌}
+use Rattle.std.proofs.Math.Seq.{take-length}
+use Rattle.std.proofs.lemmas.List.{append-nil}
+use Rattle.std.proofs.lemmas.Bool.Decides.{nat_tests}
 use Rattle.avl_values.specs.declared.fault.Fault.{Fault}
-use Rattle.avl_values.specs.declared.fault.FaultKind.TheVariants.{UnknownCodec}
-use Rattle.layout.specs.Next.{rule_of, width_of}
-use Rattle.layout.specs.Rows.{Rows, body, done, fault, refuse, short, whole}
+use Rattle.avl_values.specs.declared.fault.FaultKind.{FaultKind}
+use Rattle.layout.specs.Fields.{number}
+use Rattle.layout.specs.Next.{width_of}
+use Rattle.layout.specs.Rows.{done, fault, judge, short, whole}
+use Rattle.layout.proofs.Judging.{judge_done, judge_field}
 use Rattle.layout.proofs.RowLaws.{filled}
-use Rattle.layout.proofs.Judging.{within_row}
-use Rattle.layout.proofs.Stepping.{body_width}
-use Rattle.frame_layout.specs.DownRows.{down_rows, down_verdict, order_rows}
-use Rattle.frame_layout.specs.Values.{DownValue, answer, count}
-use Rattle.frame_layout.proofs.Lengths.{short_down_few}
-use Rattle.frame_layout.proofs.Places.{SaysDown, says_down}
-use Rattle.frame_channel.specs.DownCursors.{rows_at}
-use Rattle.frame_channel.specs.DownMachines.{HasTaken}
+use Rattle.command_layout.specs.declared.way.Way.TheVariants.{Down}
+use Rattle.frame_layout.specs.DownRows.{answer_rows, count_rows, down_rows, down_verdict, order_rows}
+use Rattle.frame_layout.specs.EitherRows.{map_verdict}
+use Rattle.frame_layout.specs.FrameBodies.{body_kind_rows, longest_body}
+use Rattle.frame_layout.specs.FrameRows.{length_rows}
+use Rattle.frame_layout.specs.Values.{DownValue, answer, count, order}
+use Rattle.frame_layout.proofs.EitherFills.{map_judged}
+use Rattle.frame_layout.proofs.Lengths.{short_down_few, starts_short_down}
+use Rattle.frame_layout.proofs.Places.{SaysDown, SaysOrder, says_down}
+use Rattle.frame_channel.specs.BodyIn.{body_in}
+use Rattle.frame_channel.specs.DownMachines.{HasTaken, InCount, InFrame}
 use Rattle.frame_channel.specs.DownPushes.{DownState, PushedByte}
-use Rattle.frame_channel.specs.declared.down_item.DownItem.TheVariants.{More, Login, Count, Broken}
+use Rattle.frame_channel.specs.FrameCursors.{frame_verdict}
+use Rattle.frame_channel.specs.FrameMachines as frame_machine
+use Rattle.frame_channel.specs.declared.down_item.DownItem.TheVariants.{More, Login, Count, Order, Broken}
 use Rattle.frame_channel.specs.declared.down_machine.DownMachine.{DownMachine}
-use Rattle.frame_channel.proofs.FieldSteps.{at_short}
+use Rattle.frame_channel.specs.declared.down_machine.DownMachine.TheVariants as machine
+use Rattle.frame_channel.specs.declared.field.Field.{Field}
+use Rattle.frame_channel.specs.declared.frame_machine.FrameMachine.{FrameMachine}
+use Rattle.frame_layout.specs.declared.body_kind.BodyKind.{BodyKind}
+use Rattle.frame_channel.proofs.BodySteps.{Said, says}
+use Rattle.frame_channel.proofs.FieldSteps.{Took, at_short, came}
+use Rattle.frame_channel.proofs.FrameSteps as frame_steps
 
--- a command's body that isn't empty
+-- the login's answer
 
-order_first : width_of order_rows ≡ Some 1
+pub answer_judged : (b : ℕ) → judge answer_rows 0 (b ∷ []) ≡ whole (answer b) 1
+unfolding answer_rows
+answer_judged b =
+    let n : number (b ∷ []) ≡ b = omega arith in
+    judge_field 1 (λ _. None) (λ field. done (answer (number field))) 0 (b ∷ []) [] refl ∙ judge_done (answer (number (b ∷ []))) 1 [] ∙ ap (λ k. whole (answer k) 1) n
+
+-- a count, and four zero bytes
+
+pub count_width : width_of count_rows ≡ Some 4
+unfolding count_rows
+count_width = refl
+
+behind_count : (b : Bool) (n : ℕ) (field more : List ℕ) → length field ≡ 4 → number field ≡ n → (n == 0) ≡ b → judge count_rows 0 (field ++ more) ≡ judge (if b then order_rows else done (count n)) 4 more
+unfolding count_rows
+behind_count b n field more four value test =
+    judge_field 4 (λ _. None) (λ f. if number f == 0 then order_rows else done (count (number f))) 0 field more four
+    ∙ ap (λ k. judge (if k == 0 then order_rows else done (count k)) 4 more) value ∙ ap (λ t. judge (if t then order_rows else done (count n)) 4 more) test
+
+pub count_judged : (n : ℕ) (field : List ℕ) → length field ≡ 4 → number field ≡ n → (n == 0) ≡ false → judge count_rows 0 field ≡ whole (count n) 4
+count_judged n field four value some =
+    ap (judge count_rows 0) (sym (append-nil field)) ∙ behind_count false n field [] four value some ∙ judge_done (count n) 4 []
+
+-- behind four zero bytes the verdict is that on a frame
+
+abbrev pub says_down_frame : Said → DownValue
+says_down_frame f = order f.1
+
+order_judged : (place : ℕ) (bytes : List ℕ) → judge order_rows place bytes ≡ map_verdict says_down_frame (judge (length_rows (longest_body Down) (body_kind_rows Down)) place bytes)
 unfolding order_rows
-order_first = refl
+order_judged place bytes = map_judged says_down_frame (length_rows (longest_body Down) (body_kind_rows Down)) place bytes
 
-pub order_width : (total : ℕ) → 0 < total → width_of (body total order_rows) ≡ Some 1
-order_width total some = body_width order_rows 1 total order_first (omega arith)
+pub down_frame_judged : (after_answer : Bool) (zeros more : List ℕ) → after_answer ≡ true → length zeros ≡ 4 → number zeros ≡ 0 → down_verdict after_answer (zeros ++ more) ≡ map_verdict says_down_frame (frame_verdict Down (zeros ++ more))
+down_frame_judged after_answer zeros more place four none =
+    ap (λ b. down_verdict b (zeros ++ more)) place ∙ behind_count true 0 zeros more four none refl ∙ order_judged 4 more
+    ∙ ap (λ v. map_verdict says_down_frame v) (sym (frame_steps.behind_preamble Down zeros more four none))
 
-pub order_rule : (total : ℕ) (field : List ℕ) → 0 < total → rule_of (body total order_rows) field ≡ Some UnknownCodec
-unfolding order_rows
-order_rule total field some = ap (λ (r : Rows DownValue). rule_of r field) (within_row total 1 (λ _. Some UnknownCodec) (λ _. refuse UnknownCodec) (λ (v : DownValue). done v) (omega arith))
+pub in_frame_judged : (after_answer : Bool) (bytes zeros more : List ℕ) → after_answer ≡ true → bytes ≡ zeros ++ more → length zeros ≡ 4 → number zeros ≡ 0 → down_verdict after_answer bytes ≡ map_verdict says_down_frame (frame_verdict Down bytes)
+in_frame_judged after_answer bytes zeros more place is four none =
+    ap (down_verdict after_answer) is ∙ down_frame_judged after_answer zeros more place four none ∙ ap (λ x. map_verdict says_down_frame (frame_verdict Down x)) (sym is)
 
 -- what a machine has taken is short, and so has few bytes
 
 pub has_short : (m : DownMachine) (after_answer : Bool) (bytes : List ℕ) → HasTaken m after_answer bytes → down_verdict after_answer bytes ≡ short
-has_short m after_answer bytes h = at_short (down_rows after_answer) (rows_at m.cursor) m.field bytes h.field
+has_short machine.Answer after_answer bytes h = ap (down_verdict after_answer) h.1 ∙ starts_short_down after_answer
+has_short (machine.Count f) after_answer bytes h = ap (λ b. down_verdict b bytes) h.0 ∙ at_short count_rows count_rows f bytes h.1.field
+has_short (machine.Frame m) after_answer bytes h =
+    let i = h.1 in
+    in_frame_judged after_answer bytes i.zeros i.more h.0 i.is i.four i.zero ∙ ap (λ v. map_verdict says_down_frame v) (frame_steps.has_short m Down bytes i.has)
 
 pub has_few : (m : DownMachine) (after_answer : Bool) (bytes : List ℕ) → HasTaken m after_answer bytes → length bytes < 1280
 has_few m after_answer bytes h = short_down_few after_answer bytes (has_short m after_answer bytes h)
 
 -- what a whole verdict says
 
-whole_says : (after_answer : Bool) (v : DownValue) (bytes : List ℕ) → down_verdict after_answer bytes ≡ whole v (length bytes) → SaysDown after_answer v
-whole_says after_answer v bytes e = let f = filled (down_rows after_answer) 0 (length bytes) v bytes e in says_down after_answer v _ f.3
+whole_says : (after_answer : Bool) (v : DownValue) (bytes : List ℕ) → down_verdict after_answer bytes ≡ whole v (length bytes) → SaysDown after_answer v bytes
+whole_says after_answer v bytes e =
+    let f = filled (down_rows after_answer) 0 (length bytes) v bytes e in
+    let k : f.0 ≡ length bytes = omega (arith, f.1) in
+    subst (SaysDown after_answer v) (ap (λ n. take n bytes) k ∙ take-length bytes) (says_down after_answer v (take f.0 bytes) f.3)
 
-answer_place : (after_answer : Bool) (n : ℕ) → SaysDown after_answer (answer n) → after_answer ≡ false
-answer_place false n s = refl
-answer_place true n s = absurd (let e = s.value in cc)
+answer_place : (after_answer : Bool) (n : ℕ) (bytes : List ℕ) → SaysDown after_answer (answer n) bytes → after_answer ≡ false
+answer_place false n bytes s = refl
+answer_place true n bytes (inl s) = absurd (let e = s.value in cc)
+answer_place true n bytes (inr s) = absurd (let e = s.value in cc)
 
-count_place : (after_answer : Bool) (n : ℕ) → SaysDown after_answer (count n) → after_answer ≡ true
-count_place false n s = absurd (let e = s.value in cc)
-count_place true n s = refl
+count_place : (after_answer : Bool) (n : ℕ) (bytes : List ℕ) → SaysDown after_answer (count n) bytes → after_answer ≡ true
+count_place false n bytes s = absurd (let e = s.value in cc)
+count_place true n bytes s = refl
+
+order_place : (after_answer : Bool) (body bytes : List ℕ) → SaysDown after_answer (order body) bytes → (after_answer ≡ true) × SaysOrder (order body) bytes
+order_place false body bytes s = absurd (let e = s.value in cc)
+order_place true body bytes (inl s) = absurd (let e = s.value in cc)
+order_place true body bytes (inr s) = (refl, s)
+
+-- the body that a whole frame says
+order_says : (after_answer : Bool) (bytes : List ℕ) → (body : List ℕ) × (down_verdict after_answer bytes ≡ whole (order body) (length bytes))
+    → (after_answer ≡ true) × (down_verdict after_answer bytes ≡ whole (order (body_in bytes)) (length bytes))
+order_says after_answer bytes (body, e) =
+    let p = order_place after_answer body bytes (whole_says after_answer (order body) bytes e) in
+    let value = p.1.value in
+    let same : body ≡ p.1.body = cc in
+    (p.0, e ∙ ap (λ x. whole (order x) (length bytes)) (same ∙ sym p.1.holds.body_is))
 
 -- a reader's fields as contracts see them
 
-abbrev pub seen : List ℕ → Bool → Bool → DownState
-seen have after_answer failed = record { have = have; after_answer = after_answer; failed = failed; body = [] }
+abbrev pub seen : List ℕ → List ℕ → Bool → Bool → DownState
+seen have last after_answer failed = record { have = have; after_answer = after_answer; failed = failed; body = body_in last }
 
-pub on_byte : (have : List ℕ) (b : ℕ) (after_answer failed : Bool) (m : DownMachine) → HasTaken m after_answer (have ++ b ∷ []) → PushedByte (seen have after_answer failed) (seen (have ++ b ∷ []) after_answer failed) b More
-on_byte have b after_answer failed m taking = record { verdict = has_short m after_answer (have ++ b ∷ []) taking; at_place = tt; state = refl }
+pub on_byte : (have last : List ℕ) (b : ℕ) (after_answer failed : Bool) (m : DownMachine) → HasTaken m after_answer (have ++ b ∷ []) → PushedByte (seen have last after_answer failed) (seen (have ++ b ∷ []) last after_answer failed) b More
+on_byte have last b after_answer failed m taking = record { verdict = has_short m after_answer (have ++ b ∷ []) taking; at_place = tt; state = refl }
 
-pub answer_byte : (have : List ℕ) (b n : ℕ) (after_answer failed : Bool) → down_verdict after_answer (have ++ b ∷ []) ≡ whole (answer n) (length (have ++ b ∷ []))
-    → PushedByte (seen have after_answer failed) (seen [] true failed) b (Login n)
-answer_byte have b n after_answer failed e = record { verdict = e; at_place = answer_place after_answer n (whole_says after_answer (answer n) (have ++ b ∷ []) e); state = refl }
+pub answer_byte : (have last : List ℕ) (b n : ℕ) (after_answer failed : Bool) → down_verdict after_answer (have ++ b ∷ []) ≡ whole (answer n) (length (have ++ b ∷ []))
+    → PushedByte (seen have last after_answer failed) (seen [] last true failed) b (Login n)
+answer_byte have last b n after_answer failed e = record { verdict = e; at_place = answer_place after_answer n (have ++ b ∷ []) (whole_says after_answer (answer n) (have ++ b ∷ []) e); state = refl }
 
-pub count_byte : (have : List ℕ) (b n : ℕ) (after_answer failed : Bool) → down_verdict after_answer (have ++ b ∷ []) ≡ whole (count n) (length (have ++ b ∷ []))
-    → PushedByte (seen have after_answer failed) (seen [] true failed) b (Count n)
-count_byte have b n after_answer failed e = record { verdict = e; at_place = count_place after_answer n (whole_says after_answer (count n) (have ++ b ∷ []) e); state = refl }
+pub count_byte : (have last : List ℕ) (b n : ℕ) (after_answer failed : Bool) → down_verdict after_answer (have ++ b ∷ []) ≡ whole (count n) (length (have ++ b ∷ []))
+    → PushedByte (seen have last after_answer failed) (seen [] last true failed) b (Count n)
+count_byte have last b n after_answer failed e = record { verdict = e; at_place = count_place after_answer n (have ++ b ∷ []) (whole_says after_answer (count n) (have ++ b ∷ []) e); state = refl }
 
-pub broken_byte : (have : List ℕ) (b : ℕ) (after_answer failed : Bool) (found : Fault) → down_verdict after_answer (have ++ b ∷ []) ≡ fault found.kind found.place
-    → PushedByte (seen have after_answer failed) (seen (have ++ b ∷ []) after_answer true) b (Broken found)
-broken_byte have b after_answer failed found e = record { verdict = e; at_place = tt; state = refl }
+pub order_byte : (have last : List ℕ) (b : ℕ) (after_answer failed : Bool) → (body : List ℕ) × (down_verdict after_answer (have ++ b ∷ []) ≡ whole (order body) (length (have ++ b ∷ [])))
+    → PushedByte (seen have last after_answer failed) (seen [] (have ++ b ∷ []) true failed) b Order
+order_byte have last b after_answer failed e = let s = order_says after_answer (have ++ b ∷ []) e in record { verdict = s.1; at_place = s.0; state = refl }
+
+pub broken_byte : (have last : List ℕ) (b : ℕ) (after_answer failed : Bool) (found : Fault) → down_verdict after_answer (have ++ b ∷ []) ≡ fault found.kind found.place
+    → PushedByte (seen have last after_answer failed) (seen (have ++ b ∷ []) last after_answer true) b (Broken found)
+broken_byte have last b after_answer failed found e = record { verdict = e; at_place = tt; state = refl }
+
+-- the answer, a count, and four zero bytes, once the last byte is there
+
+pub answer_taken : (b : ℕ) (after_answer : Bool) (bytes : List ℕ) → after_answer ≡ false → bytes ≡ [] → down_verdict after_answer (bytes ++ b ∷ []) ≡ whole (answer b) (length (bytes ++ b ∷ []))
+answer_taken b after_answer bytes place none =
+    ap (λ p. down_verdict p (bytes ++ b ∷ [])) place ∙ ap (λ x. down_verdict false (x ++ b ∷ [])) none ∙ answer_judged b ∙ ap (λ x. whole (answer b) (length (x ++ b ∷ []))) (sym none)
+
+no_elements : (xs : List ℕ) → length xs ≡ 0 → xs ≡ []
+no_elements [] e = refl
+no_elements (x ∷ xs) e = absurd (omega arith)
+
+pub record FourCame (f g : Field) (bytes : List ℕ) : Type 0 where
+  pub four : length bytes ≡ 4
+  pub number_is : number bytes ≡ g.value
+
+pub four_came : (f g : Field) (bytes : List ℕ) (b : ℕ) → InCount f bytes → Took f g b → g.missing ≡ 0 → FourCame f g (bytes ++ b ∷ [])
+four_came f g bytes b h t none =
+    let k = came count_rows count_rows f g bytes b h.field t none in
+    let wide : Some f.width ≡ Some 4 = sym h.field.width ∙ count_width in
+    let width : f.width ≡ 4 = cc in
+    let first : k.before ≡ [] = no_elements k.before (omega (arith, k.start, t.start, h.first)) in
+    let is : bytes ++ b ∷ [] ≡ k.field = k.is ∙ ap (λ x. x ++ k.field) first in
+    record { four = omega (arith, ap length is, k.size, t.width); number_is = ap number is ∙ k.number_is }
+
+pub count_taken : (f g : Field) (n b : ℕ) (after_answer : Bool) (bytes : List ℕ) → after_answer ≡ true → InCount f bytes → Took f g b → g.missing ≡ 0 → n ≡ g.value → 0 < n
+    → down_verdict after_answer (bytes ++ b ∷ []) ≡ whole (count n) (length (bytes ++ b ∷ []))
+count_taken f g n b after_answer bytes place h t none value some =
+    let c = four_came f g bytes b h t none in
+    let test : (n == 0) ≡ false = grind (arith, nat_tests) in
+    ap (λ p. down_verdict p (bytes ++ b ∷ [])) place ∙ count_judged n (bytes ++ b ∷ []) c.four (c.number_is ∙ sym value) test ∙ ap (λ k. whole (count n) k) (sym c.four)
+
+pub zeros_taken : (f g : Field) (n b : ℕ) (m : FrameMachine) (after_answer : Bool) (bytes : List ℕ) → after_answer ≡ true → InCount f bytes → Took f g b → g.missing ≡ 0 → n ≡ g.value → n ≡ 0
+    → ((zeros : List ℕ) → length zeros ≡ 4 → number zeros ≡ 0 → frame_machine.HasTaken m Down zeros) → HasTaken (machine.Frame m) after_answer (bytes ++ b ∷ [])
+zeros_taken f g n b m after_answer bytes place h t none value zero begins =
+    let c = four_came f g bytes b h t none in
+    let zeros = bytes ++ b ∷ [] in
+    let nothing : number zeros ≡ 0 = c.number_is ∙ sym value ∙ zero in
+    (place, record { zeros = zeros; more = []; is = sym (append-nil zeros); four = c.four; zero = nothing; has = begins zeros c.four nothing })
+
+-- what a frame is, is what the item is
+
+pub frame_whole : (m : FrameMachine) (kind : BodyKind) (b : ℕ) (after_answer : Bool) (bytes : List ℕ) → after_answer ≡ true → InFrame m bytes
+    → (body : List ℕ) × (frame_verdict Down (bytes ++ b ∷ []) ≡ whole (says kind body) (length (bytes ++ b ∷ [])))
+    → (body : List ℕ) × (down_verdict after_answer (bytes ++ b ∷ []) ≡ whole (order body) (length (bytes ++ b ∷ [])))
+frame_whole m kind b after_answer bytes place i (body, e) =
+    let is : bytes ++ b ∷ [] ≡ i.zeros ++ (i.more ++ b ∷ []) = ap (λ x. x ++ b ∷ []) i.is ∙ append_assoc i.zeros i.more (b ∷ []) in
+    (body, in_frame_judged after_answer (bytes ++ b ∷ []) i.zeros (i.more ++ b ∷ []) place is i.four i.zero ∙ ap (λ v. map_verdict says_down_frame v) e)
+
+pub frame_broken : (m : FrameMachine) (kind : FaultKind) (p b : ℕ) (after_answer : Bool) (bytes : List ℕ) → after_answer ≡ true → InFrame m bytes → frame_verdict Down (bytes ++ b ∷ []) ≡ fault kind p
+    → down_verdict after_answer (bytes ++ b ∷ []) ≡ fault kind p
+frame_broken m kind p b after_answer bytes place i e =
+    let is : bytes ++ b ∷ [] ≡ i.zeros ++ (i.more ++ b ∷ []) = ap (λ x. x ++ b ∷ []) i.is ∙ append_assoc i.zeros i.more (b ∷ []) in
+    in_frame_judged after_answer (bytes ++ b ∷ []) i.zeros (i.more ++ b ∷ []) place is i.four i.zero ∙ ap (λ v. map_verdict says_down_frame v) e
+
+pub frame_more : (m n : FrameMachine) (b : ℕ) (after_answer : Bool) (bytes : List ℕ) → after_answer ≡ true → InFrame m bytes → frame_machine.HasTaken n Down (bytes ++ b ∷ []) → HasTaken (machine.Frame n) after_answer (bytes ++ b ∷ [])
+frame_more m n b after_answer bytes place i has =
+    let is : bytes ++ b ∷ [] ≡ i.zeros ++ (i.more ++ b ∷ []) = ap (λ x. x ++ b ∷ []) i.is ∙ append_assoc i.zeros i.more (b ∷ []) in
+    (place, record { zeros = i.zeros; more = i.more ++ b ∷ []; is = is; four = i.four; zero = i.zero; has = has })

@@ -98,7 +98,11 @@ still_lacks all rows f g bytes b h t lacks =
 
 -- all its bytes are there: the field, what it says, and what stands behind it
 pub record Came {V : Type 0} (all rows : Rows V) (f g : Field) (bytes : List ℕ) : Type 0 where
+  pub before : List ℕ
   pub field : List ℕ
+  pub is : bytes ≡ before ++ field
+  pub start : length before ≡ g.start
+  pub size : length field ≡ g.width
   pub number_is : number field ≡ g.value
   pub place : g.start + g.width ≡ length bytes
   pub passed : rule_of rows field ≡ None → Leaves all bytes (rows_after rows field)
@@ -114,7 +118,11 @@ came {V = V} all rows f g bytes b h t none =
     let all_taken : take (length field) field ≡ field = take-length field in
     let place : length h.fields + length field ≡ length (bytes ++ b ∷ []) = sym (ap length is ∙ length-append h.fields field) in
     record {
+      before = h.fields;
       field = field;
+      is = is;
+      start = sym (t.start ∙ h.start);
+      size = sym (t.width ∙ w);
       number_is = number_push h.part b ∙ ap (λ n. n * 256 + b) (sym h.value) ∙ sym t.value;
       place = ap (λ k. k + g.width) (t.start ∙ h.start) ∙ ap (λ k. length h.fields + k) (t.width ∙ w) ∙ place;
       passed = λ ok. record {

@@ -1,10 +1,12 @@
 pub mod BodySteps
+pub mod BodyTakes
 pub mod Digits
 pub mod DownPieces
 pub mod DownReads
 pub mod DownSteps
 pub mod FaultPlaces
 pub mod FieldSteps
+pub mod FrameSteps
 pub mod StreamSteps
 pub mod UpPieces
 pub mod UpReads

@@ -5,7 +5,7 @@ use Rattle.layout.specs.Rows.{short}
 use Rattle.frame_layout.specs.UpRows.{up_verdict}
 use Rattle.frame_channel.specs.UpPushes.{IsAtPlace, Pushed, PushedByte, UpState, item_verdict, state_after}
 use Rattle.frame_channel.specs.declared.up_item.UpItem.{UpItem}
-use Rattle.frame_channel.specs.declared.up_item.UpItem.TheVariants.{More, Login, Packet, Broken}
+use Rattle.frame_channel.specs.declared.up_item.UpItem.TheVariants.{More, Login, Packet, Response, Broken}
 
 abbrev pub holding : UpState → List ℕ → UpState
 holding old have = record old { have = have }
@@ -33,6 +33,7 @@ same_state : (old : UpState) (have bytes : List ℕ) (item : UpItem) → state_a
 same_state old have bytes More = refl
 same_state old have bytes (Login imei) = refl
 same_state old have bytes (Packet head) = refl
+same_state old have bytes Response = refl
 same_state old have bytes (Broken found) = refl
 
 -- the next byte and its answer

@@ -5,11 +5,12 @@ use Rattle.item_streams.specs.Laws.{AreStreamRows}
 use Rattle.item_streams.specs.Streams.{IsNotWhole, Item}
 use Rattle.item_streams.proofs.StreamLaws.{nothing_read}
 use Rattle.frame_layout.specs.UpRows.{up_rows}
-use Rattle.frame_layout.specs.Values.{UpValue, login, packet}
+use Rattle.frame_layout.specs.Values.{UpValue, login, packet, response}
 use Rattle.frame_layout.proofs.Lengths.{starts_short_up}
-use Rattle.frame_channel.specs.UpPushes.{UpState, body_in}
+use Rattle.frame_channel.specs.BodyIn.{body_in}
+use Rattle.frame_channel.specs.UpPushes.{UpState}
 use Rattle.frame_channel.specs.UpReadings.{HasRead, UpPushesRead}
-use Rattle.frame_channel.specs.declared.up_item.UpItem.TheVariants.{More, Login, Packet, Broken}
+use Rattle.frame_channel.specs.declared.up_item.UpItem.TheVariants.{More, Login, Packet, Response, Broken}
 use Rattle.frame_channel.proofs.StreamSteps.{later_place, rest_completes, rest_grows, same_place}
 
 pub up_begins : (after_login : Bool) → AreStreamRows (up_rows after_login) (up_rows true)
@@ -50,6 +51,15 @@ pushes_read after_login bytes items old new piece n (Packet head) has p =
     let body : body_in (old.have ++ take n piece) ≡ new.body = sym (ap (λ (s : UpState). s.body) p.state) in
     record {
       is = rest_completes (up_rows after_login) (up_rows true) (up_rows old.after_login) (packet head (body_in (old.have ++ take n piece))) bytes (take n piece) old.have items (up_begins after_login) has.is has.place p.verdict
+          ∙ ap (λ b. record { items = items ++ item b ∷ []; rest = [] }) body
+          ∙ ap (λ h. record { items = items ++ item new.body ∷ []; rest = h }) (sym (ap (λ (s : UpState). s.have) p.state));
+      place = later_place (up_rows after_login) (up_rows true) items (item new.body) ∙ ap up_rows (sym (ap (λ (s : UpState). s.after_login) p.state));
+    }
+pushes_read after_login bytes items old new piece n Response has p =
+    let item : List ℕ → Item UpValue = λ body. record { value = response body; end = length (bytes ++ take n piece) } in
+    let body : body_in (old.have ++ take n piece) ≡ new.body = sym (ap (λ (s : UpState). s.body) p.state) in
+    record {
+      is = rest_completes (up_rows after_login) (up_rows true) (up_rows old.after_login) (response (body_in (old.have ++ take n piece))) bytes (take n piece) old.have items (up_begins after_login) has.is has.place p.verdict
           ∙ ap (λ b. record { items = items ++ item b ∷ []; rest = [] }) body
           ∙ ap (λ h. record { items = items ++ item new.body ∷ []; rest = h }) (sym (ap (λ (s : UpState). s.have) p.state));
       place = later_place (up_rows after_login) (up_rows true) items (item new.body) ∙ ap up_rows (sym (ap (λ (s : UpState). s.after_login) p.state));

@@ -5,13 +5,16 @@ use Rattle.std.proofs.lemmas.List.{drop-take, length-set, length-take-le, take-t
 use Rattle.layout.specs.Rows.{fault, whole}
 use Rattle.layout.proofs.RowLaws.{filled}
 use Rattle.avl_values.specs.declared.fault.Fault.{Fault}
-use Rattle.record_layout.specs.declared.head.PacketHead.{PacketHead}
 use Rattle.frame_layout.specs.UpRows.{up_rows, up_verdict}
-use Rattle.frame_layout.specs.Values.{UpValue, login, packet}
-use Rattle.frame_layout.proofs.Places.{SaysAt, SaysPacket, says_at}
+use Rattle.frame_layout.specs.Values.{UpValue, frame_value, login}
+use Rattle.frame_layout.specs.declared.body_kind.BodyKind.{BodyKind}
+use Rattle.frame_layout.specs.declared.body_kind.BodyKind.TheVariants as kinds
+use Rattle.frame_layout.proofs.Places.{SaysAt, SaysFrame, says_at}
+use Rattle.frame_channel.specs.BodyIn.{body_in}
+use Rattle.frame_channel.specs.UpItems.{frame_item}
 use Rattle.frame_channel.specs.UpMachines.{HasTaken}
-use Rattle.frame_channel.specs.UpPushes.{PushedByte, UpState, body_in}
-use Rattle.frame_channel.specs.declared.up_item.UpItem.TheVariants.{More, Login, Packet, Broken}
+use Rattle.frame_channel.specs.UpPushes.{PushedByte, UpState}
+use Rattle.frame_channel.specs.declared.up_item.UpItem.TheVariants.{More, Login, Broken}
 use Rattle.frame_channel.specs.declared.up_machine.UpMachine.{UpMachine}
 use Rattle.frame_channel.proofs.UpSteps.{has_few, has_short}
 
@@ -31,27 +34,34 @@ whole_says after_login v bytes e =
     let k : f.0 ≡ length bytes = omega (arith, f.1) in
     subst (SaysAt after_login v) (ap (λ n. take n bytes) k ∙ take-length bytes) (says_at after_login v (take f.0 bytes) f.3)
 
+no_login : (kind : BodyKind) (imei : ℕ) (body : List ℕ) → login imei ≡ frame_value kind body → ⊥
+no_login (kinds.Packet head) imei body e = absurd (cc)
+no_login kinds.Command imei body e = absurd (cc)
+
 login_place : (after_login : Bool) (imei : ℕ) (bytes : List ℕ) → SaysAt after_login (login imei) bytes → after_login ≡ false
 login_place false imei bytes s = refl
-login_place true imei bytes s = absurd (let e = s.value in cc)
+login_place true imei bytes s = absurd (no_login s.kind imei s.body s.value)
 
-packet_place : (after_login : Bool) (head : PacketHead) (body bytes : List ℕ) → SaysAt after_login (packet head body) bytes → (after_login ≡ true) × SaysPacket (packet head body) bytes
-packet_place false head body bytes s = absurd (let e = s.value in cc)
-packet_place true head body bytes s = (refl, s)
+frame_place : (after_login : Bool) (kind : BodyKind) (body bytes : List ℕ) → SaysAt after_login (frame_value kind body) bytes → (after_login ≡ true) × SaysFrame (frame_value kind body) bytes
+frame_place false kind body bytes s = absurd (no_login kind s.imei body (sym s.value))
+frame_place true kind body bytes s = (refl, s)
+
+same_body : (one other : BodyKind) (a b : List ℕ) → frame_value one a ≡ frame_value other b → a ≡ b
+same_body (kinds.Packet head) (kinds.Packet other) a b e = cc
+same_body (kinds.Packet head) kinds.Command a b e = absurd (cc)
+same_body kinds.Command (kinds.Packet other) a b e = absurd (cc)
+same_body kinds.Command kinds.Command a b e = cc
 
 -- the body that a whole frame says
-body_said : (head : PacketHead) (body bytes : List ℕ) → SaysPacket (packet head body) bytes → (body ≡ body_in bytes) × (12 ≤ length bytes)
-body_said head body bytes s =
-    let e = s.value in
-    let same : body ≡ s.body = cc in
-    (same ∙ sym s.body_is, omega (arith, s.size))
+body_said : (kind : BodyKind) (body bytes : List ℕ) → SaysFrame (frame_value kind body) bytes → (body ≡ body_in bytes) × (12 ≤ length bytes)
+body_said kind body bytes s = (same_body kind s.kind body s.body s.value ∙ sym s.holds.body_is, omega (arith, s.holds.size))
 
-pub packet_verdict_says : (after_login : Bool) (head : PacketHead) (bytes : List ℕ) → (body : List ℕ) × (up_verdict after_login bytes ≡ whole (packet head body) (length bytes))
-    → (after_login ≡ true) × (12 ≤ length bytes) × (up_verdict after_login bytes ≡ whole (packet head (body_in bytes)) (length bytes))
-packet_verdict_says after_login head bytes (body, e) =
-    let p = packet_place after_login head body bytes (whole_says after_login (packet head body) bytes e) in
-    let b = body_said head body bytes p.1 in
-    (p.0, b.1, e ∙ ap (λ x. whole (packet head x) (length bytes)) b.0)
+pub frame_verdict_says : (after_login : Bool) (kind : BodyKind) (bytes : List ℕ) → (body : List ℕ) × (up_verdict after_login bytes ≡ whole (frame_value kind body) (length bytes))
+    → (after_login ≡ true) × (12 ≤ length bytes) × (up_verdict after_login bytes ≡ whole (frame_value kind (body_in bytes)) (length bytes))
+frame_verdict_says after_login kind bytes (body, e) =
+    let p = frame_place after_login kind body bytes (whole_says after_login (frame_value kind body) bytes e) in
+    let b = body_said kind body bytes p.1 in
+    (p.0, b.1, e ∙ ap (λ x. whole (frame_value kind x) (length bytes)) b.0)
 
 -- a reader's fields as contracts see them
 
@@ -85,17 +95,20 @@ body_stands buffer len b room some =
     let front : drop 8 (take n all) ≡ take (n - 8) (drop 8 all) = ap (λ k. drop 8 (take k all)) (sym eight) ∙ drop-take 8 (n - 8) all in
     sym (ap body_in (sym (written buffer len b room)) ∙ ap (λ k. take (k - 12) (drop 8 (take n all))) size ∙ ap (take (n - 12)) front ∙ take-take (n - 12) (n - 8) (drop 8 all) (omega arith))
 
-pub packet_byte : (buffer last : List ℕ) (len body_len b : ℕ) (after_login failed : Bool) (head : PacketHead) → len < length buffer
-    → (body : List ℕ) × (up_verdict after_login (take len buffer ++ b ∷ []) ≡ whole (packet head body) (length (take len buffer ++ b ∷ [])))
+-- the item that a whole frame is
+by_kind : (old new : UpState) (b : ℕ) (kind : BodyKind) → (old.after_login ≡ true) → up_verdict old.after_login (old.have ++ b ∷ []) ≡ whole (frame_value kind (body_in (old.have ++ b ∷ []))) (length (old.have ++ b ∷ []))
+    → new ≡ record old { have = []; after_login = true; body = body_in (old.have ++ b ∷ []) } → PushedByte old new b (frame_item kind)
+by_kind old new b (kinds.Packet head) place e state = record { verdict = e; at_place = place; state = state }
+by_kind old new b kinds.Command place e state = record { verdict = e; at_place = place; state = state }
+
+pub frame_byte : (buffer last : List ℕ) (len body_len b : ℕ) (after_login failed : Bool) (kind : BodyKind) → len < length buffer
+    → (body : List ℕ) × (up_verdict after_login (take len buffer ++ b ∷ []) ≡ whole (frame_value kind body) (length (take len buffer ++ b ∷ [])))
     → 12 ≤ len + 1
-    → PushedByte (seen buffer last len body_len after_login failed) (seen last (set buffer len b) 0 (len + 1 - 12) true failed) b (Packet head)
-packet_byte buffer last len body_len b after_login failed head room e some =
-    let p = packet_verdict_says after_login head (take len buffer ++ b ∷ []) e in
-    record {
-      verdict = p.2;
-      at_place = p.0;
-      state = ap (λ (body : List ℕ). let s : UpState = record { have = []; after_login = true; failed = failed; body = body } in s) (body_stands buffer len b room some);
-    }
+    → PushedByte (seen buffer last len body_len after_login failed) (seen last (set buffer len b) 0 (len + 1 - 12) true failed) b (frame_item kind)
+frame_byte buffer last len body_len b after_login failed kind room e some =
+    let p = frame_verdict_says after_login kind (take len buffer ++ b ∷ []) e in
+    by_kind (seen buffer last len body_len after_login failed) (seen last (set buffer len b) 0 (len + 1 - 12) true failed) b kind p.0 p.2
+    (ap (λ (body : List ℕ). let s : UpState = record { have = []; after_login = true; failed = failed; body = body } in s) (body_stands buffer len b room some))
 
 pub broken_byte : (buffer last : List ℕ) (len body_len b : ℕ) (after_login failed : Bool) (found : Fault) → len < length buffer
     → up_verdict after_login (take len buffer ++ b ∷ []) ≡ fault found.kind found.place

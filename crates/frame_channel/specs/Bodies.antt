@@ -1,36 +1,36 @@
 -- Where a reader stands inside a frame's body.
-use Rattle.std.specs.Prelude.{◌≡◌, ℕ, ◌≤◌, Bool, List, ◌++◌, length}
+use Rattle.std.specs.Prelude.{◌≡◌, ℕ, ◌≤◌, List, ◌++◌, length}
 use Rattle.crc_field.specs.Crc.{crc_of}
 use Rattle.layout.specs.Rows.{fault}
-use Rattle.record_layout.specs.PacketRows.{packet_rows}
-use Rattle.record_codecs.specs.Machines as record_machine
+use Rattle.command_layout.specs.declared.way.Way.{Way}
+use Rattle.frame_layout.specs.FrameBodies.{body_kind_rows, longest_body}
 use Rattle.frame_layout.specs.FrameRows.{body_rows, crc_rows}
-use Rattle.frame_layout.specs.UpRows.{up_rows, up_verdict}
-use Rattle.frame_layout.specs.Values.{packet}
+use Rattle.frame_channel.specs.BodyMachines as body_machine
 use Rattle.frame_channel.specs.Fields.{Leaves}
+use Rattle.frame_channel.specs.FrameCursors.{frame_verdict, way_rows}
 use Rattle.frame_channel.specs.declared.body_reader.BodyReader.{BodyReader}
 use Rattle.frame_channel.specs.declared.body_reader.BodyStep.{BodyStep}
 use Rattle.frame_channel.specs.declared.body_reader.BodyStep.TheVariants as step
 
 -- inside a body, of which these bytes were taken, and none of their fields failed
-pub record InBody (after_login : Bool) (r : BodyReader) (bytes : List ℕ) : Type 0 where
+pub record InBody (way : Way) (r : BodyReader) (bytes : List ℕ) : Type 0 where
   pub before : List ℕ
   pub taken : List ℕ
   pub is : bytes ≡ before ++ taken
   pub start : r.start ≡ length before
-  pub left : Leaves (up_rows after_login) before (body_rows packet_rows packet r.total)
-  pub few : r.total ≤ 65535
-  pub has : record_machine.HasTaken r.machine r.total taken
+  pub left : Leaves (way_rows way) before (body_rows (body_kind_rows way) r.total)
+  pub few : r.total ≤ longest_body way
+  pub has : body_machine.HasTaken r.machine way r.total taken
   pub crc : r.crc ≡ crc_of taken
 
 -- the reader is inside some body
 pub record IsInBody (r : BodyReader) : Type 0 where
-  pub after_login : Bool
+  pub way : Way
   pub bytes : List ℕ
-  pub has : InBody after_login r bytes
+  pub has : InBody way r bytes
 
 -- behind the body the checksum's field is left, which knows the body; a fault of the body is that of the frame
-abbrev pub BodyAnswers : Bool → BodyReader → List ℕ → BodyStep → Type 0
-BodyAnswers after_login r bytes step.More = InBody after_login r bytes
-BodyAnswers after_login r bytes (step.Whole head crc end) = (end ≡ length bytes) × ((body : List ℕ) × Leaves (up_rows after_login) bytes (crc_rows (packet head body) crc))
-BodyAnswers after_login r bytes (step.Broken found) = up_verdict after_login bytes ≡ fault found.kind found.place
+abbrev pub BodyAnswers : Way → BodyReader → List ℕ → BodyStep → Type 0
+BodyAnswers way r bytes step.More = InBody way r bytes
+BodyAnswers way r bytes (step.Whole kind crc end) = (end ≡ length bytes) × ((body : List ℕ) × Leaves (way_rows way) bytes (crc_rows (kind, body) crc))
+BodyAnswers way r bytes (step.Broken found) = frame_verdict way bytes ≡ fault found.kind found.place

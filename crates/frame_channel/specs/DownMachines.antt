@@ -1,18 +1,38 @@
 -- Where a machine stands that takes an item down byte by byte.
-use Rattle.std.specs.Prelude.{◌≡◌, ℕ, Bool, List, length}
+use Rattle.std.specs.Prelude.{◌≡◌, ℕ, Bool, true, false, List, [], ◌++◌, length}
+use Rattle.layout.specs.Fields.{number}
 use Rattle.layout.specs.Rows.{whole, fault}
-use Rattle.frame_layout.specs.DownRows.{down_rows, down_verdict}
-use Rattle.frame_layout.specs.Values.{answer, count}
+use Rattle.command_layout.specs.declared.way.Way.TheVariants.{Down}
+use Rattle.frame_layout.specs.DownRows.{count_rows, down_verdict}
+use Rattle.frame_layout.specs.Values.{answer, count, order}
 use Rattle.frame_channel.specs.Fields.{AtField}
-use Rattle.frame_channel.specs.DownCursors.{IsSound, rows_at}
+use Rattle.frame_channel.specs.FrameMachines as frame_machine
 use Rattle.frame_channel.specs.declared.down_machine.DownMachine.{DownMachine}
+use Rattle.frame_channel.specs.declared.down_machine.DownMachine.TheVariants as machine
 use Rattle.frame_channel.specs.declared.down_machine.DownStep.{DownStep}
 use Rattle.frame_channel.specs.declared.down_machine.DownStep.TheVariants as step
+use Rattle.frame_channel.specs.declared.field.Field.{Field}
+use Rattle.frame_channel.specs.declared.frame_machine.FrameMachine.{FrameMachine}
+
+-- in the first four bytes
+pub record InCount (f : Field) (bytes : List ℕ) : Type 0 where
+  pub field : AtField count_rows count_rows f bytes
+  pub first : f.start ≡ 0
+
+-- behind four zero bytes
+pub record InFrame (m : FrameMachine) (bytes : List ℕ) : Type 0 where
+  pub zeros : List ℕ
+  pub more : List ℕ
+  pub is : bytes ≡ zeros ++ more
+  pub four : length zeros ≡ 4
+  pub zero : number zeros ≡ 0
+  pub has : frame_machine.HasTaken m Down bytes
 
 -- the machine has taken these bytes of an item, and no field of them failed
-pub record HasTaken (m : DownMachine) (after_answer : Bool) (bytes : List ℕ) : Type 0 where
-  pub field : AtField (down_rows after_answer) (rows_at m.cursor) m.field bytes
-  pub sound : IsSound m.cursor
+abbrev pub HasTaken : DownMachine → Bool → List ℕ → Type 0
+HasTaken machine.Answer after_answer bytes = (after_answer ≡ false) × (bytes ≡ [])
+HasTaken (machine.Count f) after_answer bytes = (after_answer ≡ true) × InCount f bytes
+HasTaken (machine.Frame m) after_answer bytes = (after_answer ≡ true) × InFrame m bytes
 
 -- the machine has taken some bytes
 pub record IsTaking (m : DownMachine) : Type 0 where
@@ -21,8 +41,9 @@ pub record IsTaking (m : DownMachine) : Type 0 where
   pub has : HasTaken m after_answer bytes
 
 -- the answer is the verdict on all the bytes, and while that is short the machine goes on from them
-abbrev pub Answers : Bool → List ℕ → DownStep → Type 0
-Answers after_answer bytes (step.On m) = HasTaken m after_answer bytes
-Answers after_answer bytes (step.Answer n) = down_verdict after_answer bytes ≡ whole (answer n) (length bytes)
-Answers after_answer bytes (step.Count n) = down_verdict after_answer bytes ≡ whole (count n) (length bytes)
-Answers after_answer bytes (step.Broken found) = down_verdict after_answer bytes ≡ fault found.kind found.place
+abbrev pub Answers : DownMachine → Bool → List ℕ → DownStep → Type 0
+Answers m after_answer bytes step.More = HasTaken m after_answer bytes
+Answers m after_answer bytes (step.Answer n) = down_verdict after_answer bytes ≡ whole (answer n) (length bytes)
+Answers m after_answer bytes (step.Count n) = down_verdict after_answer bytes ≡ whole (count n) (length bytes)
+Answers m after_answer bytes step.Order = (body : List ℕ) × (down_verdict after_answer bytes ≡ whole (order body) (length bytes))
+Answers m after_answer bytes (step.Broken found) = down_verdict after_answer bytes ≡ fault found.kind found.place

@@ -2,9 +2,10 @@
 use Rattle.std.specs.Prelude.{◌≡◌, ℕ, ◌<◌, ◌≤◌, Bool, true, false, List, [], ◌∷◌, ◌++◌, length, take}
 use Rattle.layout.specs.Rows.{Verdict, whole, short, fault}
 use Rattle.frame_layout.specs.DownRows.{down_verdict}
-use Rattle.frame_layout.specs.Values.{DownValue, answer, count}
+use Rattle.frame_layout.specs.Values.{DownValue, answer, count, order}
+use Rattle.frame_channel.specs.BodyIn.{body_in}
 use Rattle.frame_channel.specs.declared.down_item.DownItem.{DownItem}
-use Rattle.frame_channel.specs.declared.down_item.DownItem.TheVariants.{More, Login, Count, Broken}
+use Rattle.frame_channel.specs.declared.down_item.DownItem.TheVariants.{More, Login, Count, Order, Broken}
 
 -- A reader: the bytes of its unfinished item, whether the login's answer has come, whether it has failed, and the body of the
 -- frame that was last whole.
@@ -19,13 +20,15 @@ abbrev pub item_verdict : DownItem → List ℕ → Verdict DownValue
 item_verdict More bytes = short
 item_verdict (Login n) bytes = whole (answer n) (length bytes)
 item_verdict (Count n) bytes = whole (count n) (length bytes)
+item_verdict Order bytes = whole (order (body_in bytes)) (length bytes)
 item_verdict (Broken found) bytes = fault found.kind found.place
 
--- the login's answer is said only at the first place, and counts only behind it
+-- the login's answer is said only at the first place, and counts and frames only behind it
 abbrev pub IsAtPlace : Bool → DownItem → Type 0
 IsAtPlace after_answer More = Unit {0}
 IsAtPlace after_answer (Login n) = after_answer ≡ false
 IsAtPlace after_answer (Count n) = after_answer ≡ true
+IsAtPlace after_answer Order = after_answer ≡ true
 IsAtPlace after_answer (Broken found) = Unit {0}
 
 -- before the login's answer, and before a count
@@ -40,6 +43,7 @@ abbrev pub state_after : DownState → List ℕ → DownItem → DownState
 state_after old bytes More = record old { have = bytes }
 state_after old bytes (Login n) = record old { have = []; after_answer = true }
 state_after old bytes (Count n) = record old { have = []; after_answer = true }
+state_after old bytes Order = record old { have = []; after_answer = true; body = body_in bytes }
 state_after old bytes (Broken found) = record old { have = bytes; failed = true }
 
 -- The first n bytes of the piece were taken. The answer is the verdict on them behind the bytes that stood, and with fewer of

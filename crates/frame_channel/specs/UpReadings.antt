@@ -2,10 +2,10 @@
 use Rattle.std.specs.Prelude.{◌≡◌, ℕ, Bool, true, List, [], ◌∷◌, ◌++◌, length, take}
 use Rattle.item_streams.specs.Streams.{Item, Reading, reading_of, rows_behind}
 use Rattle.frame_layout.specs.UpRows.{up_rows}
-use Rattle.frame_layout.specs.Values.{UpValue, login, packet}
+use Rattle.frame_layout.specs.Values.{UpValue, login, packet, response}
 use Rattle.frame_channel.specs.UpPushes.{Pushed, UpState}
 use Rattle.frame_channel.specs.declared.up_item.UpItem.{UpItem}
-use Rattle.frame_channel.specs.declared.up_item.UpItem.TheVariants.{More, Login, Packet, Broken}
+use Rattle.frame_channel.specs.declared.up_item.UpItem.TheVariants.{More, Login, Packet, Response, Broken}
 
 -- the items of a stream up, from before the login or from behind it, and its rest
 abbrev pub up_reading : Bool → List ℕ → Reading UpValue
@@ -16,6 +16,7 @@ abbrev pub added : UpItem → List ℕ → ℕ → List (Item UpValue)
 added More body end = []
 added (Login imei) body end = (record { value = login imei; end = end }) ∷ []
 added (Packet head) body end = (record { value = packet head body; end = end }) ∷ []
+added Response body end = (record { value = response body; end = end }) ∷ []
 added (Broken found) body end = []
 
 -- Of the bytes that a reader took these are the items, and the rest is what it has.

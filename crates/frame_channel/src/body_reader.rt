@@ -1,12 +1,13 @@
 //! A frame's body while its bytes come.
-ghost use Rattle.std.specs.Prelude.{◌≡◌, ◌<◌, ◌+◌, ℕ, Bool, List, [], ◌∷◌, ◌++◌};
+ghost use Rattle.std.specs.Prelude.{◌≡◌, ◌<◌, ◌+◌, ℕ, List, [], ◌∷◌, ◌++◌};
 ghost use Rattle.crc_field.specs.Crc.{crc_of};
-ghost use Rattle.record_codecs.specs.Machines.{HasTaken};
+ghost use Rattle.frame_channel.specs.BodyMachines.{HasTaken};
 
+use crate::body_machine::{BodyMachine, BodyScan};
 use avl_values::Fault;
+use command_layout::Way;
 use crc_field::Running;
-use record_codecs::{RecordMachine, Scan};
-use record_layout::PacketHead;
+use frame_layout::BodyKind;
 use std::sync::ledger::Ledger;
 use step_count::Steps;
 
@@ -17,7 +18,7 @@ pub struct BodyReader {
     start: u32,
     /// Its length in bytes.
     total: u32,
-    machine: RecordMachine,
+    machine: BodyMachine,
     /// The checksum of the bytes that were taken.
     crc: Running,
 }
@@ -27,26 +28,27 @@ pub struct BodyReader {
 pub enum BodyStep {
     /// Fewer bytes than the body.
     More,
-    /// The body is whole, says this first, has this checksum and ends before this place.
-    Whole(PacketHead, u16, u32),
+    /// The body is whole, is of this kind, has this checksum and ends before this place.
+    Whole(BodyKind, u16, u32),
     Broken(Fault),
 }
 
 impl BodyReader {
+    ghost use Rattle.command_layout.specs.declared.way.Way.{Way};
     ghost use Rattle.frame_channel.specs.Bodies.{BodyAnswers, InBody, IsInBody};
 
-    /// A body of which no byte is there.
-    pub fn new(start: u32, total: u32) -> BodyReader
+    /// A body that passes this way, of which no byte is there.
+    pub fn new(start: u32, total: u32, way: Way) -> BodyReader
         requires { 0 < total }
         ensures start { result.start ≡ start }
         ensures total { result.total ≡ total }
-        ensures taken { HasTaken result.machine total [] }
+        ensures taken { HasTaken result.machine way total [] }
         ensures crc { result.crc ≡ crc_of [] }
     {
         BodyReader {
             start,
             total,
-            machine: RecordMachine::new(total),
+            machine: BodyMachine::new(total, way),
             crc: Running::new(),
         }
     }
@@ -55,14 +57,16 @@ impl BodyReader {
     /// behind the body.
     pub fn push<L: Ledger>(&mut self, byte: u8, steps: &mut Steps<L>) -> BodyStep
         requires { IsInBody self.old }
-        ensures answers { (after_login : Bool) (bytes : List ℕ) → InBody after_login self.old bytes → BodyAnswers after_login self.new (bytes ++ byte ∷ []) result }
+        ensures answers { (way : Way) (bytes : List ℕ) → InBody way self.old bytes → BodyAnswers way self.new (bytes ++ byte ∷ []) result }
         ensures step { steps.new ≡ steps.old + 1 }
     {
         self.crc.push(byte);
         match self.machine.push(byte, steps) {
-            Scan::More => BodyStep::More,
-            Scan::Whole(head) => BodyStep::Whole(head, self.crc.value(), self.start + self.total),
-            Scan::Broken(found) => BodyStep::Broken(Fault {
+            BodyScan::More => BodyStep::More,
+            BodyScan::Whole(kind) => {
+                BodyStep::Whole(kind, self.crc.value(), self.start + self.total)
+            }
+            BodyScan::Broken(found) => BodyStep::Broken(Fault {
                 kind: found.kind,
                 place: self.start + found.place,
             }),

@@ -8,27 +8,30 @@ use crate::down_item::DownItem;
 use crate::down_machine::{DownMachine, DownStep};
 use arrayvec::ArrayVec;
 use std::marker::{Brand, Model};
+use std::mem::swap;
 use std::sync::ledger::{Blank, Ledger};
 use step_count::Steps;
 
-/// A reader of a stream down: the login's answer, and then counts. It is seen as the bytes of its unfinished item, whether the
-/// login's answer has come, whether it has failed, and the body of the frame that was last whole. It takes no memory.
+/// A reader of a stream down: the login's answer, and then counts and frames of commands. It is seen as the bytes of its
+/// unfinished item, whether the login's answer has come, whether it has failed, and the body of the frame that was last whole. It
+/// takes no memory.
 #[derive(Drop)]
 pub struct Down {
     buffer: ArrayVec<u8, 1280>,
+    last: ArrayVec<u8, 1280>,
     machine: DownMachine,
     after_answer: bool,
     failed: bool,
 }
 
 impl Model for Down {
-    ghost use Rattle.std.specs.Prelude.{[]};
+    ghost use Rattle.frame_channel.specs.BodyIn.{body_in};
     ghost use Rattle.frame_channel.specs.DownPushes.{DownState};
     ghost use Rattle.frame_channel.specs.DownBuffers.{IsDown};
 
     ghost Value = { DownState };
 
-    ghost view = { λ d. record { have = d.buffer.items; after_answer = d.after_answer; failed = d.failed; body = [] } };
+    ghost view = { λ d. record { have = d.buffer.items; after_answer = d.after_answer; failed = d.failed; body = body_in d.last.items } };
 
     ghost invariant = { λ d. IsDown d.buffer.items d.after_answer d.failed d.machine };
 }
@@ -40,6 +43,7 @@ impl Down {
     {
         Down {
             buffer: ArrayVec::new(),
+            last: ArrayVec::new(),
             machine: DownMachine::answer(),
             after_answer: false,
             failed: false,
@@ -52,10 +56,33 @@ impl Down {
     {
         Down {
             buffer: ArrayVec::new(),
+            last: ArrayVec::new(),
             machine: DownMachine::count(),
             after_answer: true,
             failed: false,
         }
+    }
+
+    /// Begins anew before the login's answer, also where it has answered Broken. The body is empty then.
+    pub fn begin_login(&mut self)
+        ensures { self.new ≡ before_answer }
+    {
+        self.buffer.clear();
+        self.last.clear();
+        self.machine = DownMachine::answer();
+        self.after_answer = false;
+        self.failed = false;
+    }
+
+    /// Begins anew behind the login's answer, as `begin_login` does before it.
+    pub fn begin_answers(&mut self)
+        ensures { self.new ≡ before_counts }
+    {
+        self.buffer.clear();
+        self.last.clear();
+        self.machine = DownMachine::count();
+        self.after_answer = true;
+        self.failed = false;
     }
 
     /// Takes bytes up to and including the one that decides the item, or the whole piece, and says how many. It must not have
@@ -91,8 +118,7 @@ impl Down {
     {
         self.is_unfinished();
         for (i, byte) in piece.iter().enumerate() {
-            steps.tick();
-            match self.take(*byte) {
+            match self.take(*byte, steps) {
                 DownItem::More => {}
                 item => return (i + 1, item),
             }
@@ -108,16 +134,14 @@ impl Down {
     }
 
     // Takes one byte.
-    fn take(&mut self, byte: u8) -> DownItem
+    fn take<L: Ledger>(&mut self, byte: u8, steps: &mut Steps<L>) -> DownItem
         requires { self.old.failed ≡ false }
-        ensures { PushedByte self.old self.new byte result }
+        ensures pushed { PushedByte self.old self.new byte result }
+        ensures step { steps.new ≡ steps.old + 1 }
     {
         self.buffer.push(byte);
-        match self.machine.push(byte) {
-            DownStep::On(machine) => {
-                self.machine = machine;
-                DownItem::More
-            }
+        match self.machine.push(byte, steps) {
+            DownStep::More => DownItem::More,
             DownStep::Answer(answer) => {
                 self.buffer.clear();
                 self.machine = DownMachine::count();
@@ -130,6 +154,13 @@ impl Down {
                 self.after_answer = true;
                 DownItem::Count(count)
             }
+            DownStep::Order => {
+                swap(&mut self.buffer, &mut self.last);
+                self.buffer.clear();
+                self.machine = DownMachine::count();
+                self.after_answer = true;
+                DownItem::Order
+            }
             DownStep::Broken(found) => {
                 self.failed = true;
                 DownItem::Broken(found)
@@ -137,12 +168,15 @@ impl Down {
         }
     }
 
-    /// The body of the frame that was last whole, empty before the first. So far no frame comes down.
+    /// The body of the frame that was last whole, empty before the first.
     pub fn body(&self) -> &[u8]
         ensures { result.now ≡ self.now.body }
     {
-        let _ = &self.buffer;
-        &[]
+        let frame = self.last.as_slice();
+        if frame.len() < 12 {
+            return &[];
+        }
+        &frame[8..frame.len() - 4]
     }
 
     /// How many bytes it has of its unfinished item.

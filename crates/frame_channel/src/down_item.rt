@@ -9,6 +9,8 @@ pub enum DownItem {
     Login(u8),
     /// A count of records, which isn't 0.
     Count(u32),
+    /// The frame of a command of Codec 12 or 14. The reader lends its body, which says the rest.
+    Order,
     /// No item can begin with these bytes. The fault's place is counted from the item's first byte.
     Broken(Fault),
 }

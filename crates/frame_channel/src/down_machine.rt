@@ -1,24 +1,33 @@
 //! An item down, judged byte by byte.
-ghost use Rattle.std.specs.Prelude.{◌≡◌, ℕ, Bool, List, [], ◌∷◌, ◌++◌, false, true};
+ghost use Rattle.std.specs.Prelude.{◌≡◌, ◌+◌, Bool, List, ℕ, [], ◌∷◌, ◌++◌, false, true};
 ghost use Rattle.frame_channel.specs.DownMachines.{Answers, HasTaken, IsTaking};
 
-use crate::down_cursor::{DownCursor, DownNext};
 use crate::field::Field;
+use crate::frame_machine::{FrameMachine, FrameStep};
 use avl_values::Fault;
+use command_layout::Way;
+use std::sync::ledger::Ledger;
+use step_count::Steps;
 
 /// Judges the bytes of an item down one at a time, and holds none of them.
 #[derive(Clone, Copy)]
-pub struct DownMachine {
-    cursor: DownCursor,
-    field: Field,
+pub enum DownMachine {
+    /// Before the login's answer.
+    Answer,
+    /// In a count, or in the four zero bytes of a command's frame.
+    Count(Field),
+    /// Behind these four zero bytes.
+    Frame(FrameMachine),
 }
 
-/// What a byte brings: the machine goes on, or the item is decided.
+/// What the bytes of an item down so far are.
 #[derive(Clone, Copy)]
 pub enum DownStep {
-    On(DownMachine),
+    More,
     Answer(u8),
     Count(u32),
+    /// The frame of a command.
+    Order,
     Broken(Fault),
 }
 
@@ -27,42 +36,44 @@ impl DownMachine {
     pub fn answer() -> DownMachine
         ensures { HasTaken result false [] }
     {
-        DownMachine {
-            cursor: DownCursor::Answer,
-            field: Field::new(0, 1),
-        }
+        DownMachine::Answer
     }
 
-    /// A machine before a count.
+    /// A machine before a count or a command's frame.
     pub fn count() -> DownMachine
         ensures { HasTaken result true [] }
     {
-        DownMachine {
-            cursor: DownCursor::Count,
-            field: Field::new(0, 4),
-        }
+        DownMachine::Count(Field::new(0, 4))
     }
 
-    /// Takes the next byte. The answer is the verdict on all bytes so far.
-    pub fn push(self, byte: u8) -> DownStep
-        requires { IsTaking self }
-        ensures { (after_answer : Bool) (bytes : List ℕ) → HasTaken self after_answer bytes → Answers after_answer (bytes ++ byte ∷ []) result }
+    /// Takes the next byte, in one step. The answer is the verdict on all bytes so far; while it is More, the machine goes on.
+    pub fn push<L: Ledger>(&mut self, byte: u8, steps: &mut Steps<L>) -> DownStep
+        requires { IsTaking self.old }
+        ensures answers { (after_answer : Bool) (bytes : List ℕ) → HasTaken self.old after_answer bytes → Answers self.new after_answer (bytes ++ byte ∷ []) result }
+        ensures step { steps.new ≡ steps.old + 1 }
     {
-        let cursor = self.cursor;
-        let mut field = self.field;
-        match field.push(byte) {
-            None => DownStep::On(DownMachine { cursor, field }),
-            Some(value) => match cursor.next(value) {
-                DownNext::Field(next) => DownStep::On(DownMachine {
-                    cursor: next,
-                    field: Field::new(field.end(), next.width()),
-                }),
-                DownNext::Answer(answer) => DownStep::Answer(answer),
-                DownNext::Count(count) => DownStep::Count(count),
-                DownNext::Fault(kind) => DownStep::Broken(Fault {
-                    kind,
-                    place: field.start(),
-                }),
+        match self {
+            DownMachine::Answer => {
+                steps.tick();
+                DownStep::Answer(byte)
+            }
+            DownMachine::Count(field) => {
+                steps.tick();
+                match field.push(byte) {
+                    None => DownStep::More,
+                    Some(count) => {
+                        if count > 0 {
+                            return DownStep::Count(count);
+                        }
+                        *self = DownMachine::Frame(FrameMachine::behind_zeros(Way::Down));
+                        DownStep::More
+                    }
+                }
+            }
+            DownMachine::Frame(frame) => match frame.push(byte, steps) {
+                FrameStep::More => DownStep::More,
+                FrameStep::Whole(_) => DownStep::Order,
+                FrameStep::Broken(found) => DownStep::Broken(found),
             },
         }
     }

@@ -1,16 +1,19 @@
-//! Readers of a TCP connection in any pieces: up, a login and then data frames; down, the login's answer and then counts. Each
-//! takes every byte once, in one step, and decides an item at the same byte however the stream is cut.
+//! Readers of a TCP connection in any pieces: up, a login and then frames of data bodies and of responses; down, the login's
+//! answer and then counts and frames of commands. Each takes every byte once, in one step, and decides an item at the same byte
+//! however the stream is cut.
 #![tactic(auto)]
 
+mod body_machine;
 mod body_reader;
 mod down;
-mod down_cursor;
 mod down_item;
 mod down_machine;
 mod field;
+mod frame_cursor;
+mod frame_machine;
 mod laws;
+mod login_machine;
 mod up;
-mod up_cursor;
 mod up_item;
 mod up_machine;
 

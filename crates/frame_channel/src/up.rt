@@ -4,8 +4,8 @@ ghost use Rattle.layout.specs.Rows.{short};
 ghost use Rattle.frame_layout.specs.UpRows.{up_verdict};
 ghost use Rattle.frame_channel.specs.UpPushes.{Pushed, PushedByte, before_frames, before_login};
 
-use crate::up_item::UpItem;
-use crate::up_machine::UpMachine;
+use crate::up_item::{UpItem, of_frame};
+use crate::up_machine::{UpMachine, UpStep};
 use avl_values::NoMemory;
 use std::alloc::Global;
 use std::marker::{Brand, Model};
@@ -22,8 +22,9 @@ fn zeros(alloc: Global, len: usize) -> Result<Vec<u8>, NoMemory>
     Ok(vec![in alloc; 0; len]?)
 }
 
-/// A reader of a stream up: a login, and then data frames. It is seen as the bytes of its unfinished item, whether the login has
-/// come, whether it has failed, and the body of the frame that was last whole. Its memory is taken at once.
+/// A reader of a stream up: a login, and then frames of data bodies and of responses. It is seen as the bytes of its unfinished
+/// item, whether the login has come, whether it has failed, and the body of the frame that was last whole. Its memory is taken
+/// at once.
 #[derive(Drop)]
 pub struct Up {
     buffer: Vec<u8>,
@@ -76,6 +77,28 @@ impl Up {
             after_login: true,
             failed: false,
         })
+    }
+
+    /// Begins anew before a login, in the memory that it has, also where it has answered Broken. The body is empty then.
+    pub fn begin_login(&mut self)
+        ensures { self.new ≡ before_login }
+    {
+        self.len = 0;
+        self.body_len = 0;
+        self.machine = UpMachine::login();
+        self.after_login = false;
+        self.failed = false;
+    }
+
+    /// Begins anew behind a login, as `begin_login` does before one.
+    pub fn begin_frames(&mut self)
+        ensures { self.new ≡ before_frames }
+    {
+        self.len = 0;
+        self.body_len = 0;
+        self.machine = UpMachine::frame();
+        self.after_login = true;
+        self.failed = false;
     }
 
     /// Takes bytes up to and including the one that decides the item, or the whole piece, and says how many. It must not have
@@ -132,22 +155,22 @@ impl Up {
         self.buffer[len] = byte;
         self.len = len + 1;
         match self.machine.push(byte, steps) {
-            UpItem::More => UpItem::More,
-            UpItem::Login(imei) => {
+            UpStep::More => UpItem::More,
+            UpStep::Login(imei) => {
                 self.len = 0;
                 self.machine = UpMachine::frame();
                 self.after_login = true;
                 UpItem::Login(imei)
             }
-            UpItem::Packet(head) => {
+            UpStep::Frame(kind) => {
                 swap(&mut self.buffer, &mut self.last);
                 self.body_len = len + 1 - 12;
                 self.len = 0;
                 self.machine = UpMachine::frame();
                 self.after_login = true;
-                UpItem::Packet(head)
+                of_frame(kind)
             }
-            UpItem::Broken(found) => {
+            UpStep::Broken(found) => {
                 self.failed = true;
                 UpItem::Broken(found)
             }

@@ -4,6 +4,7 @@ pub mod EitherFills
 pub mod Examples
 pub mod FrameFills
 pub mod KindFills
+pub mod KindVerdicts
 pub mod Lengths
 pub mod LoginFills
 pub mod NumberFills

@@ -1,67 +1,41 @@
-use Rattle.std.proofs.Common.{[], ◌∷◌, ◌++◌, sym, ap, ◌∙◌, arith}
-use Rattle.layout.specs.Rows.{done, fault}
-use Rattle.frame_layout.specs.DownRows.{down_rows}
-use Rattle.frame_layout.specs.Values.{answer, count}
-use Rattle.frame_channel.specs.DownCursors.{rows_at}
-use Rattle.frame_channel.proofs.DownSteps.{has_few}
-use Rattle.frame_channel.proofs.FieldSteps.{Took, came, ended, enter, leaves_as, start_within, value_small}
+use Rattle.std.proofs.Common.{◌≡◌, arith, subst}
+use Rattle.command_layout.specs.declared.way.Way.TheVariants.{Down}
+use Rattle.frame_layout.specs.DownRows.{count_rows}
+use Rattle.frame_channel.specs.DownMachines.{HasTaken}
+use Rattle.frame_channel.specs.declared.down_machine.DownMachine.{DownMachine}
+use Rattle.frame_channel.proofs.DownSteps.{answer_taken, count_taken, frame_broken, frame_whole, zeros_taken}
+use Rattle.frame_channel.proofs.FieldSteps.{Took, value_small}
 use Rattle.frame_channel.proofs.down_machine.DownMachine.push.Goals as goal
 
 pub push-requires-clause-small : goal.push-requires-clause-small
-push-requires-clause-small c = let h = c.requires.has in value_small (down_rows c.requires.after_answer) (rows_at c.args.self.cursor) c.args.self.field c.requires.bytes h.field
+push-requires-clause-small g c =
+    let h = subst (λ (m : DownMachine). HasTaken m c.requires.after_answer c.requires.bytes) c.in-Count.is c.requires.has in
+    value_small count_rows count_rows c.in-Count.field c.requires.bytes h.1.field
 
-pub end-requires : goal.end-requires
-end-requires c =
-    let h = c.requires.has in
-    let few = has_few c.args.self c.requires.after_answer c.requires.bytes h in
-    let within = start_within (down_rows c.requires.after_answer) (rows_at c.args.self.cursor) c.args.self.field c.requires.bytes h.field in
-    omega (arith, h.field.few, c.push.ensures.start, c.push.ensures.width)
+pub returns-then-count-gt0-clause-answers : goal.returns-then-count-gt0-clause-answers
+returns-then-count-gt0-clause-answers g c after_answer bytes has =
+    let h = subst (λ (m : DownMachine). HasTaken m after_answer bytes) c.in-Count.is has in
+    let t : Took c.in-Count.field c.push.new.self c.args.byte = record { start = c.push.ensures.start; width = c.push.ensures.width; missing = c.push.ensures.missing; value = c.push.ensures.value; byte = omega arith } in
+    count_taken c.in-Count.field c.push.new.self c.in-Some.count c.args.byte after_answer bytes h.0 h.1 t c.in-Some.ensures.whole.0 c.in-Some.ensures.whole.1 c.if-count-gt0.true
 
-pub width-requires : goal.width-requires
-width-requires c =
-    let h = c.requires.has in
-    let all = down_rows c.requires.after_answer in
-    let bytes = c.requires.bytes in
-    let t : Took c.args.self.field c.push.new.self c.args.byte = record { start = c.push.ensures.start; width = c.push.ensures.width; missing = c.push.ensures.missing; value = c.push.ensures.value; byte = omega arith } in
-    let k = came all (rows_at c.args.self.cursor) c.args.self.field c.push.new.self bytes c.args.byte h.field t c.in-Some.ensures.whole.0 in
-    (c.in-Field.ensures k.field (k.number_is ∙ sym c.in-Some.ensures.whole.1)).2
+pub returns-in-Answer-clause-answers : goal.returns-in-Answer-clause-answers
+returns-in-Answer-clause-answers g c after_answer bytes has =
+    let h = subst (λ (m : DownMachine). HasTaken m after_answer bytes) c.in-Answer.is has in
+    answer_taken c.args.byte after_answer bytes h.0 h.1
 
-pub returns-in-Field : goal.returns-in-Field
-returns-in-Field c after_answer bytes h =
-    let all = down_rows after_answer in
-    let t : Took c.args.self.field c.push.new.self c.args.byte = record { start = c.push.ensures.start; width = c.push.ensures.width; missing = c.push.ensures.missing; value = c.push.ensures.value; byte = omega arith } in
-    let k = came all (rows_at c.args.self.cursor) c.args.self.field c.push.new.self bytes c.args.byte h.field t c.in-Some.ensures.whole.0 in
-    let follows = c.in-Field.ensures k.field (k.number_is ∙ sym c.in-Some.ensures.whole.1) in
-    let now = bytes ++ c.args.byte ∷ [] in
-    record {
-      field = enter all (rows_at c.in-Field.next) now c.end.result c.width.result c.new.result c.new.ensures (c.end.ensures ∙ k.place)
-          (leaves_as all now _ (rows_at c.in-Field.next) follows.1 (k.passed follows.0)) c.width.ensures.rows c.width.ensures.some c.width.ensures.few;
-      sound = follows.2;
-    }
+pub returns-else-count-gt0-clause-answers : goal.returns-else-count-gt0-clause-answers
+returns-else-count-gt0-clause-answers g c after_answer bytes has =
+    let h = subst (λ (m : DownMachine). HasTaken m after_answer bytes) c.in-Count.is has in
+    let t : Took c.in-Count.field c.push.new.self c.args.byte = record { start = c.push.ensures.start; width = c.push.ensures.width; missing = c.push.ensures.missing; value = c.push.ensures.value; byte = omega arith } in
+    let zero : c.in-Some.count ≡ 0 = omega arith in
+    zeros_taken c.in-Count.field c.push.new.self c.in-Some.count c.args.byte c.behind_zeros.result after_answer bytes h.0 h.1 t c.in-Some.ensures.whole.0 c.in-Some.ensures.whole.1 zero c.behind_zeros.ensures
 
-pub returns-in-Answer : goal.returns-in-Answer
-returns-in-Answer c after_answer bytes h =
-    let all = down_rows after_answer in
-    let t : Took c.args.self.field c.push.new.self c.args.byte = record { start = c.push.ensures.start; width = c.push.ensures.width; missing = c.push.ensures.missing; value = c.push.ensures.value; byte = omega arith } in
-    let k = came all (rows_at c.args.self.cursor) c.args.self.field c.push.new.self bytes c.args.byte h.field t c.in-Some.ensures.whole.0 in
-    let follows = c.in-Answer.ensures k.field (k.number_is ∙ sym c.in-Some.ensures.whole.1) in
-    let now = bytes ++ c.args.byte ∷ [] in
-    ended all now (answer c.in-Answer.answer) (leaves_as all now _ (done (answer c.in-Answer.answer)) follows.1 (k.passed follows.0))
+pub returns-in-Whole-clause-answers : goal.returns-in-Whole-clause-answers
+returns-in-Whole-clause-answers g c after_answer bytes has =
+    let h = subst (λ (m : DownMachine). HasTaken m after_answer bytes) c.in-Frame.is has in
+    frame_whole c.in-Frame.frame _ c.args.byte after_answer bytes h.0 h.1 (c.in-Whole.ensures.answers Down bytes h.1.has)
 
-pub returns-in-Count : goal.returns-in-Count
-returns-in-Count c after_answer bytes h =
-    let all = down_rows after_answer in
-    let t : Took c.args.self.field c.push.new.self c.args.byte = record { start = c.push.ensures.start; width = c.push.ensures.width; missing = c.push.ensures.missing; value = c.push.ensures.value; byte = omega arith } in
-    let k = came all (rows_at c.args.self.cursor) c.args.self.field c.push.new.self bytes c.args.byte h.field t c.in-Some.ensures.whole.0 in
-    let follows = c.in-Count.ensures k.field (k.number_is ∙ sym c.in-Some.ensures.whole.1) in
-    let now = bytes ++ c.args.byte ∷ [] in
-    ended all now (count c.in-Count.count) (leaves_as all now _ (done (count c.in-Count.count)) follows.1 (k.passed follows.0))
-
-pub returns-in-Fault : goal.returns-in-Fault
-returns-in-Fault c after_answer bytes h =
-    let all = down_rows after_answer in
-    let t : Took c.args.self.field c.push.new.self c.args.byte = record { start = c.push.ensures.start; width = c.push.ensures.width; missing = c.push.ensures.missing; value = c.push.ensures.value; byte = omega arith } in
-    let k = came all (rows_at c.args.self.cursor) c.args.self.field c.push.new.self bytes c.args.byte h.field t c.in-Some.ensures.whole.0 in
-    let follows = c.in-Fault.ensures k.field (k.number_is ∙ sym c.in-Some.ensures.whole.1) in
-    let now = bytes ++ c.args.byte ∷ [] in
-    k.failed c.in-Fault.kind follows ∙ ap (fault c.in-Fault.kind) (sym c.start.ensures)
+pub returns-in-Broken-clause-answers : goal.returns-in-Broken-clause-answers
+returns-in-Broken-clause-answers g c after_answer bytes has =
+    let h = subst (λ (m : DownMachine). HasTaken m after_answer bytes) c.in-Frame.is has in
+    frame_broken c.in-Frame.frame c.in-Broken.found.kind c.in-Broken.found.place c.args.byte after_answer bytes h.0 h.1 (c.in-Broken.ensures.answers Down bytes h.1.has)

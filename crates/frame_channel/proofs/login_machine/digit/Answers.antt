@@ -6,7 +6,7 @@ use Rattle.layout.specs.Fields.{fault_unless, number}
 use Rattle.frame_layout.specs.Logins.{digit_rows}
 use Rattle.frame_layout.specs.UpRows.{login_end}
 use Rattle.frame_channel.proofs.Digits.{digit_more, digit_room}
-use Rattle.frame_channel.proofs.up_cursor.login_digit.Goals as goal
+use Rattle.frame_channel.proofs.login_machine.digit.Goals as goal
 
 pub overflow_mul-number : goal.overflow_mul-number
 overflow_mul-number c = let room = digit_room c.args.left c.args.number c.requires.0 c.requires.1 in omega arith
@@ -16,7 +16,7 @@ overflow_add-number c = let room = digit_room c.args.left c.args.number c.requir
 
 pub returns-then-left-gt0 : goal.returns-then-left-gt0
 unfolding digit_rows
-returns-then-left-gt0 c body field is =
+returns-then-left-gt0 c field is =
     let left = c.args.left in
     let n = c.args.number in
     let v = c.args.value in
