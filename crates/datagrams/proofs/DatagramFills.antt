@@ -1,15 +1,12 @@
 -- Datagrams and what fills their rows.
-use Rattle.std.proofs.Common.{◌≡◌, ℕ, zero, suc, ◌+◌, ◌/◌, ◌%◌, ◌<◌, ◌≤◌, ◌^◌, ◌==◌, List, [], ◌∷◌, ◌++◌, length, refl, sym, ap, subst, ◌∙◌, arith, length-append}
-use Rattle.std.proofs.lemmas.List.{append-nil}
+use Rattle.std.proofs.Common.{◌≡◌, ℕ, zero, suc, ◌+◌, ◌/◌, ◌%◌, ◌==◌, List, [], ◌∷◌, ◌++◌, length, refl, sym, ap, subst, ◌∙◌, arith, length-append}
 use Rattle.std.specs.Int.{bytes_high_first}
 use Rattle.avl_values.specs.Imei.{decimal_places, imei_text}
 use Rattle.avl_values.specs.declared.fault.FaultKind.TheVariants.{DatagramLength}
 use Rattle.layout.specs.Bytes.{AreBytes}
-use Rattle.layout.specs.Fields.{followed_by}
 use Rattle.layout.specs.Nested.{with_bytes}
-use Rattle.layout.specs.Rows.{Rows, done, Fills}
-use Rattle.layout.proofs.Filling.{fills_done, done_filled}
-use Rattle.layout.proofs.Numbers.{bytes-front, length_spell}
+use Rattle.layout.specs.Rows.{Rows, Fills}
+use Rattle.layout.proofs.Numbers.{length_spell}
 use Rattle.record_layout.specs.PacketRows.{packet_rows}
 use Rattle.record_layout.specs.declared.head.PacketHead.{PacketHead}
 use Rattle.record_layout.proofs.Fitting.{exactly, is_exactly}
@@ -22,7 +19,7 @@ use Rattle.frame_layout.proofs.KindFills.{body_fills, filled_body}
 use Rattle.datagrams.specs.DatagramRows.{body_rows, datagram_rows, numbers_rows}
 use Rattle.datagrams.specs.Items.{IsDatagram, content_of, datagram_of}
 use Rattle.datagrams.specs.Values.{DatagramValue}
-use Rattle.datagrams.proofs.NumbersFills.{length_fill, length_take, numbers_fill, numbers_take}
+use Rattle.datagrams.proofs.NumbersFills.{joined_number, joined_numbers, length_fill, length_take, numbers_fill, numbers_take}
 
 -- The data body.
 
@@ -78,11 +75,11 @@ fills_datagram total v bytes p len fills =
     let login = login_take (λ imei. body_rows (λ b. record { packet = numbers.packet; unused = numbers.unused; avl_packet = numbers.avl_packet; imei = imei; body = b })) v numbers.more numbers.bytes_behind numbers.fills in
     let body = body_take (λ b. record { packet = numbers.packet; unused = numbers.unused; avl_packet = numbers.avl_packet; imei = login.imei; body = b }) v login.more login.bytes_behind login.fills in
     let w : DatagramValue = record { packet = numbers.packet; unused = numbers.unused; avl_packet = numbers.avl_packet; imei = login.imei; body = login.more } in
-    let content : size.more ≡ content_of w = numbers.is ∙ ap (λ b. bytes_high_first 2 numbers.packet ++ numbers.unused ∷ numbers.avl_packet ∷ b) login.is in
+    let content : size.more ≡ content_of w = joined_numbers numbers.packet numbers.unused numbers.avl_packet size.more numbers.more (login_of login.imei ++ login.more) numbers.is login.is in
     let right : size.n + 2 ≡ total = is_exactly (size.n + 2) total DatagramLength size.passes in
-    let n : size.n ≡ length (content_of w) = omega (arith, right, len, ap length size.is, length-append (bytes_high_first 2 size.n) size.more, length_spell 2 size.n, ap length content) in
-    subst (λ x. IsDatagram x bytes) body.value (record {
-      is = size.is ∙ ap (λ k. bytes_high_first 2 k ++ size.more) n ∙ ap (λ b. bytes_high_first 2 (length (content_of w)) ++ b) content;
+    let n : size.n ≡ length (content_of w) = omega (arith, right, len, ap length size.is, length-append (bytes_high_first 2 size.n) size.more, length_spell 2 size.n, ap length {y = content_of w} content) in
+    subst (λ x. IsDatagram x bytes) {x = w} body.value (record {
+      is = joined_number size.n (length (content_of w)) bytes size.more (content_of w) size.is n content;
       head = body.head;
       of_body = body.is;
       packet = numbers.packet_fits;

@@ -3,7 +3,6 @@ use Rattle.std.proofs.Common.{◌≡◌, ℕ, ◌+◌, ◌≤◌, List, [], ◌+
 use Rattle.std.proofs.Math.Seq.{take-length}
 use Rattle.std.proofs.lemmas.List.{append-nil}
 use Rattle.std.specs.Int.{bytes_high_first}
-use Rattle.layout.specs.Bytes.{AreBytes}
 use Rattle.layout.specs.Fields.{number}
 use Rattle.layout.specs.Rows.{Rows, done, whole, judge, body, Fills}
 use Rattle.layout.proofs.Filling.{fills_done, done_filled}
@@ -11,9 +10,9 @@ use Rattle.layout.proofs.Numbers.{bytes-take, number_spell}
 use Rattle.layout.proofs.RowLaws.{stays, filled, is_whole, none_begins}
 use Rattle.layout.proofs.WithinLaws.{inside, around}
 use Rattle.datagrams.specs.DatagramRows.{datagram_rows, datagram_verdict, reply_rows, reply_verdict}
-use Rattle.datagrams.specs.Items.{IsDatagram, IsReply, content_of, datagram_of}
+use Rattle.datagrams.specs.Items.{IsDatagram, content_of, datagram_of}
 use Rattle.datagrams.specs.Laws.{DatagramIsWhole, DatagramVerdictStays, NoDatagramBeginsAnother, NoReplyBeginsAnother, ReplyIsWhole, ReplyVerdictStays, WholeIsDatagram, WholeIsReply}
-use Rattle.datagrams.specs.Values.{DatagramValue, ReplyValue}
+use Rattle.datagrams.specs.Values.{DatagramValue}
 use Rattle.datagrams.proofs.DatagramFills.{datagram_fills, datagram_size, fills_datagram}
 use Rattle.datagrams.proofs.ReplyFills.{fills_reply, reply_fills, reply_size}
 

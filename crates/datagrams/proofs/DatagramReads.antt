@@ -1,12 +1,11 @@
 -- The verdict on a datagram, part by part.
-use Rattle.std.proofs.Common.{◌≡◌, ℕ, ◌+◌, ◌<◌, ◌≤◌, ◌==◌, List, [], length, refl, sym, ap, subst, ◌∙◌, arith}
+use Rattle.std.proofs.Common.{◌≡◌, ℕ, ◌+◌, ◌==◌, List, length, refl, ap, subst, ◌∙◌}
 use Rattle.std.proofs.Math.Seq.{take-length}
 use Rattle.avl_values.specs.declared.fault.FaultKind.{FaultKind}
 use Rattle.layout.specs.Bytes.{AreBytes}
 use Rattle.layout.specs.Rows.{Rows, fault, whole}
 use Rattle.record_layout.specs.PacketRows.{packet_verdict}
 use Rattle.record_layout.specs.declared.head.PacketHead.{PacketHead}
-use Rattle.frame_layout.specs.Logins.{login_rows}
 use Rattle.datagrams.specs.DatagramRows.{body_rows, datagram_rows, datagram_verdict, length_rows, numbers_rows}
 use Rattle.datagrams.specs.Items.{IsDatagram}
 use Rattle.datagrams.specs.Reading.{left_verdict}

@@ -1,8 +1,8 @@
 -- A fault's place isn't behind the bytes.
-use Rattle.std.proofs.Common.{◌≡◌, ℕ, ◌+◌, ◌-◌, ◌<◌, ◌≤◌, ◌⊎◌, inl, inr, List, length, take, drop, Option, Some, None, refl, sym, ◌∙◌, arith, length-drop}
+use Rattle.std.proofs.Common.{◌≡◌, ℕ, ◌+◌, ◌<◌, ◌≤◌, ◌⊎◌, inl, inr, List, length, take, drop, Option, Some, None, sym, ◌∙◌, arith, length-drop}
 use Rattle.std.proofs.lemmas.Bool.{cases_lt}
 use Rattle.avl_values.specs.declared.fault.FaultKind.{FaultKind}
-use Rattle.layout.specs.Rows.{Rows, done, refuse, row, Verdict, whole, short, fault, judge, unless_fault, body}
+use Rattle.layout.specs.Rows.{Rows, done, refuse, row, Verdict, fault, judge, unless_fault, body}
 use Rattle.layout.proofs.Judging.{judge_done, judge_long, judge_refuse, judge_short}
 use Rattle.record_layout.specs.PacketRows.{packet_rows, packet_verdict}
 

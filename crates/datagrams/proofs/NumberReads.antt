@@ -1,5 +1,5 @@
 -- The verdict on a datagram's length, its numbers and its body.
-use Rattle.std.proofs.Common.{◌≡◌, ℕ, ◌+◌, ◌-◌, ◌<◌, ◌≤◌, ◌⊎◌, inl, inr, ◌^◌, ◌==◌, Bool, true, false, List, [], ◌∷◌, ◌++◌, length, take, drop, Some, None, refl, sym, ap, subst, ◌∙◌, arith, length-append}
+use Rattle.std.proofs.Common.{◌≡◌, ℕ, ◌+◌, ◌<◌, ◌≤◌, inl, inr, ◌^◌, ◌==◌, Bool, false, List, [], ◌∷◌, ◌++◌, length, take, drop, None, refl, sym, ap, ◌∙◌, arith, length-append}
 use Rattle.std.proofs.Math.Seq.{take-length, take-append_seam}
 use Rattle.std.proofs.lemmas.Bool.{cases_lt}
 use Rattle.std.proofs.lemmas.Bool.Decides.{nat_tests}
@@ -8,7 +8,7 @@ use Rattle.avl_values.specs.declared.fault.FaultKind.{FaultKind}
 use Rattle.avl_values.specs.declared.fault.FaultKind.TheVariants.{DatagramLength, Overrun}
 use Rattle.layout.specs.Fields.{fault_unless, number, number_row}
 use Rattle.layout.specs.Nested.{and_then, moved, with_bytes}
-use Rattle.layout.specs.Rows.{Rows, Verdict, done, refuse, judge, body, short, whole, fault}
+use Rattle.layout.specs.Rows.{Rows, Verdict, done, judge, body, short, whole, fault}
 use Rattle.layout.proofs.Judging.{judge_done, judge_refuse, within_refuse}
 use Rattle.layout.proofs.NestedLaws.{judge_moved, judge_within}
 use Rattle.layout.proofs.Numbers.{length_spell, number_spell}

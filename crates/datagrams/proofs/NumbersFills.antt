@@ -1,5 +1,5 @@
 -- The numbers of a datagram and of a reply, and what fills their rows.
-use Rattle.std.proofs.Common.{◌≡◌, ℕ, ◌+◌, ◌<◌, ◌≤◌, ◌^◌, Bool, true, false, List, [], ◌∷◌, ◌++◌, length, None, refl, sym, ap, subst, ◌∙◌, arith, if◌then◌else◌}
+use Rattle.std.proofs.Common.{◌≡◌, ℕ, ◌<◌, ◌≤◌, ◌^◌, Bool, true, false, List, ◌∷◌, ◌++◌, None, refl, sym, ap, subst, ◌∙◌, arith, if◌then◌else◌}
 use Rattle.std.specs.Prelude.{nat_lt}
 use Rattle.std.proofs.lemmas.Bool.{lt-ltb, le-ltb}
 use Rattle.std.specs.Int.{bytes_high_first}
@@ -10,6 +10,20 @@ use Rattle.layout.specs.Rows.{Rows, refuse, Fills}
 use Rattle.layout.proofs.Filling.{no_refusal}
 use Rattle.frame_layout.proofs.NumberFills.{number_fill, number_take, spell-one}
 use Rattle.datagrams.specs.DatagramRows.{any_number, length_rows, numbers_rows}
+
+-- Bytes put together.
+
+joined_byte : (n : ℕ) (bytes more tail : List ℕ) → bytes ≡ n ∷ more → more ≡ tail → bytes ≡ n ∷ tail
+joined_byte n bytes more tail is same = is ∙ ap (λ b. n ∷ b) same
+
+pub joined_number : (n m : ℕ) (bytes more tail : List ℕ) → bytes ≡ bytes_high_first 2 n ++ more → n ≡ m → more ≡ tail → bytes ≡ bytes_high_first 2 m ++ tail
+joined_number n m bytes more tail is number same = is ∙ ap (λ k. bytes_high_first 2 k ++ more) number ∙ ap (λ b. bytes_high_first 2 m ++ b) same
+
+pub joined_numbers : (packet unused avl_packet : ℕ) (bytes more tail : List ℕ) → bytes ≡ bytes_high_first 2 packet ++ unused ∷ avl_packet ∷ more → more ≡ tail → bytes ≡ bytes_high_first 2 packet ++ unused ∷ avl_packet ∷ tail
+joined_numbers packet unused avl_packet bytes more tail is same = is ∙ ap (λ b. bytes_high_first 2 packet ++ unused ∷ avl_packet ∷ b) same
+
+one_byte : (n : ℕ) (bytes more : List ℕ) → bytes ≡ bytes_high_first 1 n ++ more → n < 256 → bytes ≡ n ∷ more
+one_byte n bytes more is small = is ∙ ap (λ b. b ++ more) (spell-one n small)
 
 -- a byte
 
@@ -27,7 +41,7 @@ pub record TakenByte {V : Type 0} (rest : ℕ → Rows V) (v : V) (bytes : List 
 pub byte_take : {V : Type 0} (rest : ℕ → Rows V) (v : V) (bytes : List ℕ) → AreBytes bytes → Fills (any_number 1 rest) v bytes → TakenByte rest v bytes
 byte_take rest v bytes p fills =
     let t = number_take 1 (λ _. None) rest v bytes p fills in
-    record { n = t.n; more = t.more; is = t.is ∙ ap (λ b. b ++ t.more) (spell-one t.n (omega (arith, t.bound))); small = omega (arith, t.bound); fills = t.fills; bytes_behind = t.bytes_behind }
+    record { n = t.n; more = t.more; is = one_byte t.n bytes t.more t.is (omega (arith, t.bound)); small = omega (arith, t.bound); fills = t.fills; bytes_behind = t.bytes_behind }
 
 -- the three numbers
 
@@ -59,7 +73,7 @@ numbers_take rest v bytes p fills =
       unused = unused.n;
       avl_packet = avl.n;
       more = avl.more;
-      is = packet.is ∙ ap (λ b. bytes_high_first 2 packet.n ++ b) (unused.is ∙ ap (λ b. unused.n ∷ b) avl.is);
+      is = joined_number packet.n packet.n bytes packet.more (unused.n ∷ avl.n ∷ avl.more) packet.is refl (joined_byte unused.n packet.more unused.more (avl.n ∷ avl.more) unused.is avl.is);
       packet_fits = omega (arith, packet.bound);
       unused_fits = unused.small;
       avl_packet_fits = avl.small;

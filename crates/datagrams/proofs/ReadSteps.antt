@@ -1,12 +1,11 @@
 -- The verdict on what is left of a datagram, field by field.
-use Rattle.std.proofs.Common.{◌≡◌, ℕ, suc, ◌+◌, ◌-◌, ◌*◌, ◌<◌, ◌≤◌, ◌^◌, List, [], ◌∷◌, ◌++◌, length, take, drop, Bool, Option, Some, None, refl, sym, ap, subst, ◌∙◌, arith, length-append}
+use Rattle.std.proofs.Common.{◌≡◌, ℕ, ◌+◌, ◌-◌, ◌<◌, ◌^◌, List, ◌∷◌, ◌++◌, length, take, drop, Option, Some, None, refl, sym, ap, ◌∙◌, arith, length-append}
 use Rattle.std.proofs.Math.Seq.{take-append_seam, drop-append_seam}
 use Rattle.std.specs.Int.{bytes_high_first}
 use Rattle.avl_values.specs.declared.fault.FaultKind.{FaultKind}
 use Rattle.avl_values.specs.declared.fault.FaultKind.TheVariants.{Overrun}
 use Rattle.layout.specs.Fields.{number, number_row}
-use Rattle.layout.specs.Next.{width_of, rule_of, rows_after}
-use Rattle.layout.specs.Rows.{Rows, Verdict, fault, judge, body}
+use Rattle.layout.specs.Rows.{Rows, fault, judge, body}
 use Rattle.layout.proofs.Numbers.{length_spell, number_spell}
 use Rattle.layout.proofs.Stepping.{body_overrun, body_on, body_fault}
 use Rattle.frame_layout.proofs.NumberFills.{spell-one}

@@ -1,5 +1,5 @@
 -- Replies and what fills their rows.
-use Rattle.std.proofs.Common.{◌≡◌, ℕ, ◌+◌, ◌<◌, ◌≤◌, ◌^◌, ◌==◌, ◌&&◌, List, [], ◌∷◌, ◌++◌, true, length, None, refl, sym, ap, subst, ◌∙◌, arith}
+use Rattle.std.proofs.Common.{◌≡◌, ℕ, ◌==◌, ◌&&◌, List, [], ◌∷◌, ◌++◌, true, length, None, refl, sym, ap, subst, ◌∙◌, arith}
 use Rattle.std.proofs.lemmas.Bool.Decides.{nat_tests}
 use Rattle.std.specs.Int.{bytes_high_first}
 use Rattle.avl_values.specs.declared.fault.FaultKind.TheVariants.{DatagramLength}
@@ -9,9 +9,9 @@ use Rattle.layout.specs.Rows.{Rows, done, Fills}
 use Rattle.layout.proofs.Filling.{fills_done, done_filled}
 use Rattle.record_layout.proofs.Fitting.{passed}
 use Rattle.datagrams.specs.DatagramRows.{any_number, numbers_rows, reply_rows}
-use Rattle.datagrams.specs.Items.{IsReply, reply_of}
+use Rattle.datagrams.specs.Items.{IsReply}
 use Rattle.datagrams.specs.Values.{ReplyValue}
-use Rattle.datagrams.proofs.NumbersFills.{byte_fill, byte_take, length_fill, length_take, numbers_fill, numbers_take}
+use Rattle.datagrams.proofs.NumbersFills.{byte_fill, byte_take, joined_number, joined_numbers, length_fill, length_take, numbers_fill, numbers_take}
 
 -- behind the numbers stands the count
 abbrev pub behind_numbers : ℕ → ℕ → ℕ → Rows ReplyValue
@@ -53,9 +53,9 @@ fills_reply total v bytes p fills =
     let five = (is_five_of_seven size.n total size.passes).0 in
     let last : numbers.more ≡ count.n ∷ [] = count.is ∙ ap (λ b. count.n ∷ b) end.1 in
     let behind : size.more ≡ bytes_high_first 2 numbers.packet ++ numbers.unused ∷ numbers.avl_packet ∷ count.n ∷ [] =
-    numbers.is ∙ ap (λ b. bytes_high_first 2 numbers.packet ++ numbers.unused ∷ numbers.avl_packet ∷ b) last in
-    subst (λ x. IsReply x bytes) end.0 (record {
-      is = size.is ∙ ap (λ k. bytes_high_first 2 k ++ size.more) five ∙ ap (λ b. 0 ∷ 5 ∷ b) behind;
+    joined_numbers numbers.packet numbers.unused numbers.avl_packet size.more numbers.more (count.n ∷ []) numbers.is last in
+    subst (λ x. IsReply x bytes) {x = w} end.0 (record {
+      is = joined_number size.n 5 bytes size.more (bytes_high_first 2 numbers.packet ++ numbers.unused ∷ numbers.avl_packet ∷ count.n ∷ []) size.is five behind;
       packet = numbers.packet_fits;
       unused = numbers.unused_fits;
       avl_packet = numbers.avl_packet_fits;

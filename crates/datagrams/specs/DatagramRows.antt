@@ -1,7 +1,7 @@
 -- The rows of datagrams and replies, and the verdicts on them (Teltonika, Data Sending Protocols, "Codec 8 protocol sending over
 -- UDP"; the faults, and that the length is that of the bytes that came, is this project's own). Places are counted from the
 -- datagram's or the reply's first byte.
-use Rattle.std.specs.Prelude.{ℕ, ◌+◌, ◌==◌, ◌&&◌, nat_lt, Bool, List, [], Option, None, if◌then◌else◌}
+use Rattle.std.specs.Prelude.{ℕ, ◌+◌, ◌==◌, ◌&&◌, nat_lt, Bool, List, [], None, if◌then◌else◌}
 use Rattle.avl_values.specs.declared.fault.FaultKind.TheVariants.{DatagramLength}
 use Rattle.layout.specs.Rows.{Rows, done, refuse, Verdict, judge, body}
 use Rattle.layout.specs.Fields.{fault_unless, number_row}

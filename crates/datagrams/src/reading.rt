@@ -20,10 +20,20 @@ const WRONG_LENGTH: Fault = Fault {
     place: 0,
 };
 
-/// The place of the digits of a datagram's IMEI, and of its data body.
+/// The length of an IMEI.
+const IMEI_LENGTH: u16 = 15;
+
+/// The place of the digits of a datagram's IMEI.
 const DIGITS: u32 = 8;
 
+/// The place of a datagram's data body.
 const BODY: u32 = 23;
+
+/// The bytes of a reply.
+const REPLY: usize = 7;
+
+/// The bytes of a reply behind its length.
+const REPLY_LENGTH: u16 = 5;
 
 /// What stands behind the length, where that is right.
 fn behind_length(bytes: &[u8]) -> Result<&[u8], Fault>
@@ -97,7 +107,7 @@ fn imei(all: &[u8]) -> Result<(Imei, &[u8]), Fault>
     ensures broken { IfErr result (λ found. (rows : ℕ → Rows DatagramValue) → left_verdict (login_rows rows) 6 all.now ≡ fault found.kind found.place) }
 {
     let (length, rest) = two_bytes(all, 6)?;
-    if length != 15 {
+    if length != IMEI_LENGTH {
         return Err(Fault {
             kind: FaultKind::LoginLength,
             place: 6,
@@ -141,10 +151,10 @@ pub fn read_reply(bytes: &[u8]) -> Result<Reply, Fault>
     ensures reply { IfOk result (λ reply. IsReply (reply_value_of reply) bytes.now) }
     ensures broken { IfErr result (λ found. reply_verdict (length bytes.now) bytes.now ≡ fault found.kind found.place) }
 {
-    if bytes.len() != 7 {
+    if bytes.len() != REPLY {
         return Err(WRONG_LENGTH);
     }
-    if u16::from_be_bytes([bytes[0], bytes[1]]) != 5 {
+    if u16::from_be_bytes([bytes[0], bytes[1]]) != REPLY_LENGTH {
         return Err(WRONG_LENGTH);
     }
     Ok(Reply {

@@ -164,7 +164,8 @@ fn the_longest(rt: HostRuntime) -> Result<(), Fail> {
     bytes[1] = 0xfe;
     bytes[66] = 0xbc;
     bytes[1279] = 1;
-    assert_eq!(rt; written_again(&bytes[..1280], &mut out), Some(true));
-    assert_eq!(rt; out.as_slice(), &bytes[..1280]);
+    let bytes = bytes.get(..1280).ok_or("1,281 bytes")?;
+    assert_eq!(rt; written_again(bytes, &mut out), Some(true));
+    assert_eq!(rt; out.as_slice(), bytes);
     Ok(())
 }

@@ -1,4 +1,4 @@
-use Rattle.std.proofs.Common.{◌≡◌, ◌+◌, ◌-◌, ◌*◌, ◌<◌, ◌^◌, suc, ap, refl, sym, subst, ◌∙◌, arith, length, true, false}
+use Rattle.std.proofs.Common.{◌≡◌, ◌+◌, ◌-◌, ◌*◌, ◌<◌, ◌^◌, ap, refl, sym, subst, ◌∙◌, arith, length, true, false}
 use Rattle.std.proofs.lemmas.Result.{err_from_is_err_and}
 use Rattle.avl_values.proofs.Places.{below-power, power-more}
 use Rattle.layout.specs.Rows.{fault}

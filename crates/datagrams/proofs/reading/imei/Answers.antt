@@ -1,9 +1,6 @@
-use Rattle.std.proofs.Common.{◌≡◌, ap, sym, ◌∙◌, ℕ, arith, length, length-append}
+use Rattle.std.proofs.Common.{ap, sym, ◌∙◌, arith}
 use Rattle.std.proofs.lemmas.Result.{err_from_is_err_and}
-use Rattle.std.specs.Int.{bytes_high_first}
-use Rattle.layout.specs.Rows.{Rows, fault}
-use Rattle.layout.proofs.Numbers.{length_spell}
-use Rattle.datagrams.specs.Values.{DatagramValue}
+use Rattle.layout.specs.Rows.{fault}
 use Rattle.datagrams.proofs.DigitReads.{login_on, login_over, login_wrong}
 use Rattle.datagrams.proofs.Results.{err_says, ok_says}
 use Rattle.datagrams.proofs.reading.imei.Goals as goal
@@ -14,17 +11,17 @@ returns-in_err-length-clause-broken c =
     let over = c.in_err-length.ensures.over in
     rw (p.1, p.2) (λ rows. login_over rows c.args.all.now over.0 ∙ ap (λ f. fault f.kind f.place) (sym over.1))
 
-pub returns-then-length-ne15-clause-broken : goal.returns-then-length-ne15-clause-broken
-returns-then-length-ne15-clause-broken c rows =
+pub returns-then-length-ne-IMEI_LENGTH-clause-broken : goal.returns-then-length-ne-IMEI_LENGTH-clause-broken
+returns-then-length-ne-IMEI_LENGTH-clause-broken c rows =
     let read = c.in_ok-length.ensures.read in
-    login_wrong rows c.args.all.now c.in_ok-length.rest.now c.in_ok-length.length read.0 read.1 (λ e. omega (arith, e, c.if-length-ne15.true))
+    login_wrong rows c.args.all.now c.in_ok-length.rest.now c.in_ok-length.length read.0 read.1 (λ e. omega (arith, e, c.if-length-ne-IMEI_LENGTH.true))
 
 pub returns-clause-read : goal.returns-clause-read
 returns-clause-read c =
     let read = c.in_ok-length.ensures.read in
-    ok_says c.digits.result _ _ (λ r h rows. login_on rows c.args.all.now c.in_ok-length.rest.now c.in_ok-length.length read.0 read.1 (omega (arith, c.if-length-ne15.false)) ∙ h rows) c.digits.ensures.read
+    ok_says c.digits.result _ _ (λ r h rows. login_on rows c.args.all.now c.in_ok-length.rest.now c.in_ok-length.length read.0 read.1 (omega (arith, c.if-length-ne-IMEI_LENGTH.false)) ∙ h rows) c.digits.ensures.read
 
 pub returns-clause-broken : goal.returns-clause-broken
 returns-clause-broken c =
     let read = c.in_ok-length.ensures.read in
-    err_says c.digits.result _ _ (λ r h rows. login_on rows c.args.all.now c.in_ok-length.rest.now c.in_ok-length.length read.0 read.1 (omega (arith, c.if-length-ne15.false)) ∙ h rows) c.digits.ensures.broken
+    err_says c.digits.result _ _ (λ r h rows. login_on rows c.args.all.now c.in_ok-length.rest.now c.in_ok-length.length read.0 read.1 (omega (arith, c.if-length-ne-IMEI_LENGTH.false)) ∙ h rows) c.digits.ensures.broken

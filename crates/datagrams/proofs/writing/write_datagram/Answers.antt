@@ -1,4 +1,4 @@
-use Rattle.std.proofs.Common.{◌≡◌, ◌≤◌, true, false, length, arith, ap}
+use Rattle.std.proofs.Common.{◌≡◌, ◌≤◌, true, false, length, arith}
 use Rattle.datagrams.specs.Items.{datagram_of}
 use Rattle.datagrams.specs.Views.{value_of}
 use Rattle.datagrams.proofs.DatagramFills.{datagram_length}
