@@ -5,9 +5,9 @@ use Rattle.std.proofs.Math.Seq.{take-append_seam, drop-append_seam, take-length}
 use Rattle.std.proofs.lemmas.List.{append-nil}
 use Rattle.avl_values.specs.declared.fault.FaultKind.{FaultKind}
 use Rattle.avl_values.specs.declared.fault.FaultKind.TheVariants.{Overrun, Excess}
-use Rattle.layout.specs.Rows.{done, judge, body, short, fault, whole}
+use Rattle.layout.specs.Rows.{judge, body, short, fault, whole}
 use Rattle.layout.specs.Fields.{number}
-use Rattle.layout.specs.Next.{width_of, rule_of, rows_after}
+use Rattle.layout.specs.Next.{rule_of, rows_after}
 use Rattle.layout.proofs.Numbers.{number_push}
 use Rattle.layout.proofs.Stepping.{body_overrun, body_missing, body_on, body_fault, body_whole, body_excess}
 use Rattle.command_layout.specs.declared.way.Way.{Way}
@@ -19,21 +19,21 @@ use Rattle.command_codecs.specs.declared.cursor.Left.TheVariants as left
 use Rattle.command_codecs.specs.declared.machine.CommandMachine.{CommandMachine}
 use Rattle.command_codecs.specs.declared.verdict.CommandScan.{CommandScan}
 use Rattle.command_codecs.specs.declared.verdict.CommandScan.TheVariants.{More, Whole, Broken}
-use Rattle.command_codecs.specs.CommandCursor.{Follows, Reads, left_of, rows_from}
+use Rattle.command_codecs.specs.CommandCursor.{Follows, Reads, heard, left_of, rows_from}
+use Rattle.command_codecs.specs.Hearing.{nothing_said}
 use Rattle.command_codecs.specs.Machines.{HasTaken, Answers, Enters}
 use Rattle.command_codecs.specs.Verdicts.{scan_verdict, without_value}
-use Rattle.command_codecs.proofs.CommandSteps.{at_end, judged_first, power_bound}
+use Rattle.command_codecs.proofs.CommandSteps.{at_end, first_verdict, power_bound}
 use Rattle.command_codecs.proofs.CursorSteps.{width_is}
 
 -- A fresh machine.
 pub fresh : (m : CommandMachine) (total : ℕ) (way : Way) → 0 < total → m.total ≡ total → m.way ≡ way → m.start ≡ 0 → m.taken ≡ 0 → m.cursor ≡ at.Codec → m.missing ≡ 1 → m.value ≡ 0 → HasTaken m total way []
 fresh m total way some t y s k c n v =
-    let said = (judged_first way total []).0 in
     let one : 1 ≡ length {A = ℕ} [] + m.missing = omega (arith, n) in
     record {
       fields = [];
       part = [];
-      said = said;
+      said = nothing_said;
       is = refl;
       of_total = t;
       of_way = y;
@@ -43,7 +43,7 @@ fresh m total way some t y s k c n v =
       lacks = omega arith;
       room = omega arith;
       value = λ h. (v, omega arith);
-      judged = λ more. (judged_first way total more).1 ∙ ap (λ x. judge (body (total - 0) (rows_from way total x said)) 0 more) (sym c) ∙ ap (λ x. judge (body (total - x) (rows_from way total m.cursor said)) x more) (sym s);
+      judged = λ more. first_verdict way total more ∙ ap (λ x. judge (body (total - 0) (rows_from way total x nothing_said)) 0 more) (sym c) ∙ ap (λ x. judge (body (total - x) (rows_from way total m.cursor nothing_said)) x more) (sym s);
     }
 
 -- One byte more of a field that then still lacks some.
@@ -141,16 +141,16 @@ field_small m n total way b bytes h byte more none one =
     omega (arith, more.value, below)
 
 -- what the machine's own total and way say is said of the body's
-pub follows_here : (m : CommandMachine) (total : ℕ) (way : Way) (v : CommandValue) (field : List ℕ) (result : Result Cursor FaultKind) → m.total ≡ total → m.way ≡ way → Follows m.way m.total (rows_from m.way m.total m.cursor v) field result
-    → Follows way total (rows_from way total m.cursor v) field result
+pub follows_here : (m : CommandMachine) (total : ℕ) (way : Way) (v : CommandValue) (field : List ℕ) (result : Result Cursor FaultKind) → m.total ≡ total → m.way ≡ way → Follows m.way m.total m.cursor v field result
+    → Follows way total m.cursor v field result
 follows_here m total way v field result t y follows =
-    subst (λ w. Follows w total (rows_from w total m.cursor v) field result) y (subst (λ k. Follows m.way k (rows_from m.way k m.cursor v) field result) t follows)
+    subst (λ w. Follows w total m.cursor v field result) y (subst (λ k. Follows m.way k m.cursor v field result) t follows)
 
 pub enters_here : (m : CommandMachine) (total : ℕ) (way : Way) (place : ℕ) (at : Cursor) (result : Result CommandMachine CommandScan) → m.total ≡ total → m.way ≡ way → Enters m.total m.way place at result → Enters total way place at result
 enters_here m total way place at result t y enters = subst (λ w. Enters total w place at result) y (subst (λ k. Enters k m.way place at result) t enters)
 
 pub field_broken : (m n : CommandMachine) (total : ℕ) (way : Way) (b : ℕ) (bytes : List ℕ) (kind : FaultKind) (h : HasTaken m total way bytes) → OneMore m n b → n.missing ≡ 0
-    → Follows way total (rows_from way total m.cursor h.said) (h.part ++ b ∷ []) (Err kind) → fault kind n.start ≡ without_value (command_verdict way total (bytes ++ b ∷ []))
+    → Follows way total m.cursor h.said (h.part ++ b ∷ []) (Err kind) → fault kind n.start ≡ without_value (command_verdict way total (bytes ++ b ∷ []))
 field_broken m n total way b bytes kind h more none fails =
     let field = h.part ++ b ∷ [] in
     let rows = rows_from way total m.cursor h.said in
@@ -166,21 +166,21 @@ pub JudgedBehind : ℕ → Way → ℕ → List ℕ → Cursor → Type 0
 JudgedBehind total way place bytes next = (v : CommandValue) × ((more : List ℕ) → command_verdict way total (bytes ++ more) ≡ judge (body (total - place) (rows_from way total next v)) place more)
 
 pub field_passed : (m n : CommandMachine) (total : ℕ) (way : Way) (b : ℕ) (bytes : List ℕ) (next : Cursor) (h : HasTaken m total way bytes) → OneMore m n b → n.missing ≡ 0
-    → Follows way total (rows_from way total m.cursor h.said) (h.part ++ b ∷ []) (Ok next) → JudgedBehind total way n.taken (bytes ++ b ∷ []) next
+    → Follows way total m.cursor h.said (h.part ++ b ∷ []) (Ok next) → JudgedBehind total way n.taken (bytes ++ b ∷ []) next
 unfolding JudgedBehind
 field_passed m n total way b bytes next h one none follows = (
-  follows.1,
+  heard m.cursor h.said (h.part ++ b ∷ []),
   λ more.
       let field = h.part ++ b ∷ [] in
       let rows = rows_from way total m.cursor h.said in
-      let after = rows_from way total next follows.1 in
+      let after = rows_from way total next (heard m.cursor h.said field) in
       let w = length field in
       let len = part_more h.part b in
       let fits : w ≤ total - m.start = omega (arith, h.room, h.of_total, len, one.missing, h.lacks) in
       let long : w ≤ length (field ++ more) = omega (arith, length-append field more) in
       let t = take-append_seam field more in
       let passes : rule_of rows (take w (field ++ more)) ≡ None = ap (rule_of rows) t ∙ follows.0 in
-      let behind : rows_after rows (take w (field ++ more)) ≡ after = ap (rows_after rows) t ∙ follows.2 in
+      let behind : rows_after rows (take w (field ++ more)) ≡ after = ap (rows_after rows) t ∙ follows.1 in
       let place : m.start + w ≡ n.taken = omega (arith, h.start, h.taken, one.taken, len) in
       let room : total - m.start - w ≡ total - n.taken = omega (arith, place) in
       let joined : (bytes ++ b ∷ []) ++ more ≡ h.fields ++ (field ++ more) = ap (λ x. x ++ more) (one_more m total way b bytes h) ∙ append_assoc h.fields field more in
@@ -264,7 +264,7 @@ enters_field total way place w at m t y s k c n v is room some = (
   λ u. (u, λ more. ap (λ x. judge (body (total - place) (rows_from way total x u)) place more) (sym c)),
 )
 
-pub enters_broken : (total : ℕ) (way : Way) (place : ℕ) (at : Cursor) (kind : FaultKind) → left_of at ≡ left.Field 0 → ((v : CommandValue) → Follows way total (rows_from way total at v) [] (Err kind))
+pub enters_broken : (total : ℕ) (way : Way) (place : ℕ) (at : Cursor) (kind : FaultKind) → left_of at ≡ left.Field 0 → ((v : CommandValue) → Follows way total at v [] (Err kind))
     → Enters total way place at (Err (Broken (record { kind = kind; place = place })))
 enters_broken total way place at kind is fails = (tt, λ v more. ap without_value (body_fault (rows_from way total at v) 0 (total - place) place kind more (width_is way total 0 at v is) (omega arith) (omega arith) (fails v)))
 
@@ -278,16 +278,18 @@ past total way place at next v w more is passes after =
     ∙ ap (λ p. judge (body (total - place) (rows_from way total next w)) p more) here
 
 -- past a text of no bytes
-pub enters_past : (total : ℕ) (way : Way) (place : ℕ) (at next : Cursor) (result : Result CommandMachine CommandScan) → left_of at ≡ left.Field 0 → ((v : CommandValue) → Follows way total (rows_from way total at v) [] (Ok next))
+pub enters_past : (total : ℕ) (way : Way) (place : ℕ) (at next : Cursor) (result : Result CommandMachine CommandScan) → left_of at ≡ left.Field 0 → ((v : CommandValue) → Follows way total at v [] (Ok next))
     → Enters total way place next result → Enters total way place at result
 enters_past total way place at next (Ok m) is follows enters = (
   enters.0,
   λ v.
       let f = follows v in
-      let on = enters.1 f.1 in
-      (on.0, λ more. past total way place at next v f.1 more is f.0 f.2 ∙ on.1 more),
+      let w = heard at v [] in
+      let on = enters.1 w in
+      (on.0, λ more. past total way place at next v w more is f.0 f.1 ∙ on.1 more),
 )
-enters_past total way place at next (Err scan) is follows enters = (enters.0, λ v more. let f = follows v in ap without_value (past total way place at next v f.1 more is f.0 f.2) ∙ enters.1 f.1 more)
+enters_past total way place at next (Err scan) is follows enters =
+    (enters.0, λ v more. let f = follows v in let w = heard at v [] in ap without_value (past total way place at next v w more is f.0 f.1) ∙ enters.1 w more)
 
 -- What a machine has taken is short, and fewer bytes than the body's length.
 

@@ -1,6 +1,6 @@
 -- What is left of a command's rows at a place of the code. The code keeps only what the later rows depend on; what the command
 -- has said so far is a value beside it.
-use Rattle.std.specs.Prelude.{◌≡◌, ◌≤◌, length, ℕ, suc, List, true, Option, Some, None, Result, Ok, Err}
+use Rattle.std.specs.Prelude.{◌≡◌, ◌≤◌, ◌+◌, ◌*◌, ◌/◌, ◌%◌, length, ℕ, suc, List, true, Option, Some, None, Result, Ok, Err}
 use Rattle.avl_values.specs.declared.fault.FaultKind.{FaultKind}
 use Rattle.layout.specs.Rows.{Rows, done}
 use Rattle.layout.specs.Fields.{number, number_row}
@@ -63,7 +63,21 @@ left_of at.End = left.Nothing
 abbrev pub Reads : List ℕ → ℕ → Type 0
 Reads field value = length field ≤ 8 → number field ≡ value
 
--- what the code answers to a field of the rows
-abbrev pub Follows : Way → ℕ → Rows CommandValue → List ℕ → Result Cursor FaultKind → Type 0
-Follows way total rows field (Ok cursor) = (rule_of rows field ≡ None) × (w : CommandValue) × (rows_after rows field ≡ rows_from way total cursor w)
-Follows way total rows field (Err kind) = rule_of rows field ≡ Some kind
+-- What a command has said once the field at this place says its value too. While the IMEI is read it is the number of the digits
+-- so far.
+abbrev pub heard : Cursor → CommandValue → List ℕ → CommandValue
+heard at.Codec v field = record v { codec = number field }
+heard (at.Quantity row) v field = v
+heard (at.Kind row) v field = record v { kind = number field }
+heard (at.Size row) v field = record v { time = None; imei = None }
+heard (at.Time imei text) v field = record v { time = Some (number field); imei = None }
+heard (at.FirstDigit text) v field = record v { imei = Some (number field) }
+heard (at.Digits behind text) v field = record v { imei = Some (digits_of v.imei * 100 + (number field / 16 * 10 + number field % 16)) }
+heard (at.Text text) v field = record v { text = field }
+heard at.LastQuantity v field = v
+heard at.End v field = v
+
+-- what the code answers to the field at a place
+abbrev pub Follows : Way → ℕ → Cursor → CommandValue → List ℕ → Result Cursor FaultKind → Type 0
+Follows way total at v field (Ok next) = (rule_of (rows_from way total at v) field ≡ None) × (rows_after (rows_from way total at v) field ≡ rows_from way total next (heard at v field))
+Follows way total at v field (Err kind) = rule_of (rows_from way total at v) field ≡ Some kind

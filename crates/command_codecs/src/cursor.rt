@@ -39,7 +39,7 @@ pub enum Cursor {
 
 fn after_codec(way: Way, total: u32, value: u64) -> Result<Cursor, FaultKind>
     requires { value < 256 }
-    ensures follows { (v : CommandValue) → (field : List ℕ) → number field ≡ value → Follows way total (rows_from way total Cursor.Codec v) field result }
+    ensures follows { (v : CommandValue) → (field : List ℕ) → number field ≡ value → Follows way total Cursor.Codec v field result }
     ensures turns { IfOk result (λ cursor. weight cursor ≡ 0) }
 {
     let _total = total;
@@ -50,7 +50,7 @@ fn after_codec(way: Way, total: u32, value: u64) -> Result<Cursor, FaultKind>
 }
 
 fn after_quantity(way: Way, total: u32, row: Row, value: u64) -> Result<Cursor, FaultKind>
-    ensures follows { (v : CommandValue) → (field : List ℕ) → number field ≡ value → Follows way total (rows_from way total (Cursor.Quantity row) v) field result }
+    ensures follows { (v : CommandValue) → (field : List ℕ) → number field ≡ value → Follows way total (Cursor.Quantity row) v field result }
     ensures turns { IfOk result (λ cursor. weight cursor ≡ 0) }
 {
     let _way = (way, total);
@@ -63,7 +63,7 @@ fn after_quantity(way: Way, total: u32, row: Row, value: u64) -> Result<Cursor, 
 
 fn after_kind(way: Way, total: u32, row: Row, value: u64) -> Result<Cursor, FaultKind>
     requires { value < 256 }
-    ensures follows { (v : CommandValue) → (field : List ℕ) → number field ≡ value → Follows way total (rows_from way total (Cursor.Kind row) v) field result }
+    ensures follows { (v : CommandValue) → (field : List ℕ) → number field ≡ value → Follows way total (Cursor.Kind row) v field result }
     ensures turns { IfOk result (λ cursor. weight cursor ≡ 0) }
 {
     let _way = (way, total);
@@ -102,7 +102,7 @@ fn text_length(total: u32, least: u32, value: u64) -> Option<u32>
 }
 
 fn after_size(way: Way, total: u32, row: Row, value: u64) -> Result<Cursor, FaultKind>
-    ensures follows { (v : CommandValue) → (field : List ℕ) → number field ≡ value → Follows way total (rows_from way total (Cursor.Size row) v) field result }
+    ensures follows { (v : CommandValue) → (field : List ℕ) → number field ≡ value → Follows way total (Cursor.Size row) v field result }
     ensures turns { IfOk result (λ cursor. weight cursor ≤ 1) }
 {
     let _way = way;
@@ -119,7 +119,7 @@ fn after_size(way: Way, total: u32, row: Row, value: u64) -> Result<Cursor, Faul
 }
 
 fn after_first_digit(way: Way, total: u32, text: u32, value: u64) -> Result<Cursor, FaultKind>
-    ensures follows { (v : CommandValue) → (field : List ℕ) → number field ≡ value → Follows way total (rows_from way total (Cursor.FirstDigit text) v) field result }
+    ensures follows { (v : CommandValue) → (field : List ℕ) → number field ≡ value → Follows way total (Cursor.FirstDigit text) v field result }
     ensures turns { IfOk result (λ cursor. weight cursor ≡ 0) }
 {
     let _way = (way, total);
@@ -137,7 +137,7 @@ fn after_digits(
     text: u32,
     value: u64,
 ) -> Result<Cursor, FaultKind>
-    ensures follows { (v : CommandValue) → (field : List ℕ) → number field ≡ value → Follows way total (rows_from way total (Cursor.Digits behind text) v) field result }
+    ensures follows { (v : CommandValue) → (field : List ℕ) → number field ≡ value → Follows way total (Cursor.Digits behind text) v field result }
     ensures turns { IfOk result (λ cursor. weight cursor ≤ 1) }
 {
     let _way = (way, total);
@@ -155,7 +155,7 @@ fn after_digits(
 }
 
 fn after_last(way: Way, total: u32, value: u64) -> Result<Cursor, FaultKind>
-    ensures follows { (v : CommandValue) → (field : List ℕ) → number field ≡ value → Follows way total (rows_from way total Cursor.LastQuantity v) field result }
+    ensures follows { (v : CommandValue) → (field : List ℕ) → number field ≡ value → Follows way total Cursor.LastQuantity v field result }
     ensures turns { IfOk result (λ cursor. weight cursor ≡ 0) }
 {
     let _way = (way, total);
@@ -167,7 +167,7 @@ fn after_last(way: Way, total: u32, value: u64) -> Result<Cursor, FaultKind>
 }
 
 fn after_time(way: Way, total: u32, imei: bool, text: u32) -> Cursor
-    ensures follows { (v : CommandValue) → (field : List ℕ) → Follows way total (rows_from way total (Cursor.Time imei text) v) field (Ok result) }
+    ensures follows { (v : CommandValue) → (field : List ℕ) → Follows way total (Cursor.Time imei text) v field (Ok result) }
     ensures turns { weight result ≤ 1 }
 {
     let _way = (way, total);
@@ -175,7 +175,7 @@ fn after_time(way: Way, total: u32, imei: bool, text: u32) -> Cursor
 }
 
 fn after_text(way: Way, total: u32, text: u32) -> Cursor
-    ensures follows { (v : CommandValue) → (field : List ℕ) → Follows way total (rows_from way total (Cursor.Text text) v) field (Ok result) }
+    ensures follows { (v : CommandValue) → (field : List ℕ) → Follows way total (Cursor.Text text) v field (Ok result) }
     ensures turns { weight result ≡ 0 }
 {
     let _way = (way, total, text);
@@ -203,7 +203,7 @@ impl Cursor {
     /// What stands after a field of this value, or the rule that the field breaks.
     pub fn next(self, way: Way, total: u32, value: u64) -> Result<Cursor, FaultKind>
         requires { left_of self ≡ Left.Field 1 → value < 256 }
-        ensures follows { (v : CommandValue) → (field : List ℕ) → Left.Field (length field) ≡ left_of self → Reads field value → Follows way total (rows_from way total self v) field result }
+        ensures follows { (v : CommandValue) → (field : List ℕ) → Left.Field (length field) ≡ left_of self → Reads field value → Follows way total self v field result }
         ensures turns { IfOk result (λ cursor. weight cursor + weight self ≤ 1) }
     {
         match self {

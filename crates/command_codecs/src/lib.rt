@@ -4,6 +4,7 @@
 
 mod command;
 mod cursor;
+mod hearing;
 mod machine;
 mod number;
 mod row;
@@ -14,7 +15,7 @@ mod writing;
 pub use command::{Command, well_formed};
 pub use command_layout::Way;
 pub use machine::CommandMachine;
-pub use scanning::scan_command;
+pub use scanning::{read_command, scan_command};
 pub use verdict::CommandScan;
 pub use writing::write_command;
 

@@ -1,7 +1,10 @@
 //! Commands judged, read and written: Teltonika's examples, bodies of each codec and way, and the first faults of small ones.
-ghost use Rattle.std.specs.Prelude.{◌≡◌, ◌+◌, ◌<◌, length};
+ghost use Rattle.std.specs.Prelude.{◌≡◌, ◌+◌, ◌<◌, ◌≤◌, ◌^◌, length};
 
-use super::{Command, CommandMachine, CommandScan, Way, scan_command, well_formed, write_command};
+use super::{
+    Command, CommandMachine, CommandScan, Way, read_command, scan_command, well_formed,
+    write_command,
+};
 use arrayvec::ArrayVec;
 use avl_values::{Fault, FaultKind, Imei};
 use std::marker::Brand;
@@ -80,6 +83,25 @@ fn examples(rt: HostRuntime) -> Result<(), Fail> {
     Ok(())
 }
 
+#[test]
+fn examples_are_read(rt: HostRuntime) -> Result<(), Fail> {
+    for (codec, kind, time, digits, text, bytes) in rows() {
+        let way = if kind == 5 { Way::Down } else { Way::Up };
+        assert!(rt; bytes.len() <= 22);
+        match read_command(bytes, way) {
+            Ok(command) => {
+                assert_eq!(rt; command.codec, codec);
+                assert_eq!(rt; command.kind, kind);
+                assert_eq!(rt; command.time, time);
+                assert_eq!(rt; command.imei, imei(digits));
+                assert_eq!(rt; command.text, text);
+            }
+            Err(_) => return Err("each example is a command".into()),
+        }
+    }
+    Ok(())
+}
+
 fn zeros() -> [u8; 1261] {
     [0; 1261]
 }
@@ -103,7 +125,7 @@ fn the_longest(rt: HostRuntime) -> Result<(), Fail> {
     Ok(())
 }
 
-fn faults() -> [(&'static [u8], Way, FaultKind, u32); 8] {
+fn faults() -> [(&'static [u8], Way, FaultKind, u32); 10] {
     [
         (
             b"\x0d\x01\x06\0\0\0\x06\0\0\0\x10ok\x01",
@@ -148,7 +170,18 @@ fn faults() -> [(&'static [u8], Way, FaultKind, u32); 8] {
             3,
         ),
         (b"\x0c\x01\x05\0\0\0", Way::Down, FaultKind::Overrun, 3),
+        (b"\x0c\x01\x05", Way::Down, FaultKind::Overrun, 3),
+        (b"", Way::Down, FaultKind::Overrun, 0),
     ]
+}
+
+fn fault_of(body: &[u8], way: Way) -> Option<Fault>
+    requires { length body.now ≤ 2 ^ 31 }
+{
+    match read_command(body, way) {
+        Ok(_) => None,
+        Err(fault) => Some(fault),
+    }
 }
 
 #[test]
@@ -159,6 +192,7 @@ fn the_first_fault(rt: HostRuntime) -> Result<(), Fail> {
             scan_command(body, body.len() as u32, way),
             CommandScan::Broken(Fault { kind, place })
         );
+        assert_eq!(rt; fault_of(body, way), Some(Fault { kind, place }));
     }
     Ok(())
 }
@@ -261,7 +295,7 @@ fn machine_answers_what_scan_command_does(rt: HostRuntime) -> Result<(), Fail> {
         let total = body.len();
         assert!(rt; total > 0 && total < 1000);
         let judged = both::<Brand>(&rt, body, way, Blank::new(1));
-        assert_eq!(rt; judged.more + 1, total);
+        assert_eq!(rt; judged.more, total - 1);
         assert_eq!(rt; judged.steps, total);
         assert_eq!(rt; judged.verdict, CommandScan::Whole);
     }

@@ -1,4 +1,4 @@
-use Rattle.std.proofs.Common.{◌≡◌, ℕ, ◌+◌, ◌-◌, ◌*◌, ◌%◌, ◌^◌, List, ◌++◌, ◌∷◌, [], length, Ok, Err, refl, ap, sym, subst, arith, length-append}
+use Rattle.std.proofs.Common.{◌≡◌, ℕ, ◌+◌, ◌-◌, ◌*◌, ◌%◌, ◌^◌, List, ◌++◌, ◌∷◌, [], length, Ok, Err, refl, ap, arith, length-append}
 use Rattle.command_layout.specs.declared.way.Way.{Way}
 use Rattle.command_codecs.specs.declared.machine.CommandMachine.{CommandMachine}
 use Rattle.command_codecs.specs.Machines.{HasTaken}

@@ -1,0 +1,11 @@
+pub mod DatagramFills
+pub mod DatagramLaws
+pub mod DatagramReads
+pub mod DigitReads
+pub mod FaultPlaces
+pub mod NumberReads
+pub mod NumbersFills
+pub mod ReadSteps
+pub mod ReplyFills
+pub mod ReplyReads
+pub mod Results

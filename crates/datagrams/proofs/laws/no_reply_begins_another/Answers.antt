@@ -1,0 +1,5 @@
+use Rattle.datagrams.proofs.DatagramLaws.{none_begins_reply}
+use Rattle.datagrams.proofs.laws.no_reply_begins_another.Goals as goal
+
+pub returns : goal.returns
+returns c = none_begins_reply
