@@ -7,6 +7,7 @@ pub mod DownSteps
 pub mod FaultPlaces
 pub mod FieldSteps
 pub mod FrameSteps
+pub mod LentBodies
 pub mod StreamSteps
 pub mod UpPieces
 pub mod UpReads

@@ -8,6 +8,7 @@ pub mod DownReadings
 pub mod Fields
 pub mod FrameCursors
 pub mod FrameMachines
+pub mod LentBodies
 pub mod LoginMachines
 pub mod UpBuffers
 pub mod UpItems

@@ -20,7 +20,7 @@ mod up_machine;
 pub use down::Down;
 pub use down_item::DownItem;
 pub use frame_layout::{write_count, write_frame, write_login};
-pub use laws::{down_pushes_read, up_pushes_read};
+pub use laws::{down_bodies_are_lent, down_pushes_read, up_bodies_are_lent, up_pushes_read};
 pub use links::{Link, MemoryLink, send};
 pub use up::Up;
 pub use up_item::UpItem;

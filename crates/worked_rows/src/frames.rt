@@ -200,7 +200,8 @@ fn first_faults_of_frames(rt: HostRuntime) -> Result<(), Fail> {
         ("ff000000", FaultKind::Preamble, 0, 4),
         ("0000000000000002", FaultKind::Length, 4, 8),
         ("0000000000010000", FaultKind::Length, 4, 8),
-        ("00000000000000030c", FaultKind::UnknownCodec, 8, 9),
+        ("000000000000000307", FaultKind::UnknownCodec, 8, 9),
+        ("00000000000000030c0106", FaultKind::Overrun, 11, 11),
         ("00000000000000030800", FaultKind::NoRecords, 9, 10),
         ("00000000000000030801", FaultKind::Overrun, 10, 10),
     ];
@@ -276,7 +277,8 @@ fn first_faults_down(rt: HostRuntime) -> Result<(), Fail> {
     let rows = [
         ("0000000000000002", FaultKind::Length, 4, 8),
         ("00000000000004f5", FaultKind::Length, 4, 8),
-        ("00000000000004f40c", FaultKind::UnknownCodec, 8, 9),
+        ("00000000000004f40d", FaultKind::UnknownCodec, 8, 9),
+        ("00000000000004f408", FaultKind::UnknownCodec, 8, 9),
     ];
     for (text, kind, place, taken) in rows {
         let mut down = Down::answers();
@@ -348,7 +350,7 @@ fn push_single<L: Ledger>(up: &mut Up, bytes: &[u8], steps: &mut Steps<L>) -> To
                 told.packets = told.packets.saturating_add(1);
                 told.records = told.records.saturating_add(head.count as u32);
             }
-            UpItem::More | UpItem::Broken(_) => {}
+            UpItem::More | UpItem::Response | UpItem::Broken(_) => {}
         }
     }
     told

@@ -5,6 +5,8 @@
 #[cfg(test)]
 mod archive;
 #[cfg(test)]
+mod command_frames;
+#[cfg(test)]
 mod flash;
 #[cfg(test)]
 mod frames;
