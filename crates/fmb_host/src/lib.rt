@@ -11,6 +11,7 @@ mod sink;
 mod source;
 #[cfg(test)]
 mod tests;
+mod writing;
 
 pub use host::{Counts, Host};
 pub use memory_host::MemoryHost;
@@ -18,3 +19,4 @@ pub use memory_sink::MemorySink;
 pub use memory_source::MemorySource;
 pub use sink::Sink;
 pub use source::Source;
+pub use writing::write_text;

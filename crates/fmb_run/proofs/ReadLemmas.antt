@@ -1,11 +1,15 @@
--- What was read of a source is its whole text, or too long for a script.
-use Rattle.std.proofs.Common.{◌≡◌, ◌<◌, ◌≤◌, ◌+◌, ◌-◌, ◌^◌, ℕ, min, List, ◌++◌, Option, None, Some, length, take, drop, refl, sym, ap, ◌∙◌, inl, inr, arith, append_assoc, length-append, length-take, take-append-drop}
+-- What was read of a source is its whole text, or too long for a script and a capture.
+use Rattle.std.proofs.Common.{true, [], Err, nat_lt, subst, ◌≡◌, ◌<◌, ◌≤◌, ◌+◌, ◌-◌, ◌^◌, ℕ, min, List, ◌++◌, Option, None, Some, length, take, drop, refl, sym, ap, ◌∙◌, inl, inr, arith, append_assoc, length-append, length-take, take-append-drop}
 use Rattle.std.proofs.Math.Seq.{take-append_seam}
+use Rattle.std.proofs.lemmas.Bool.Decides.{nat_tests}
 use Rattle.std.proofs.lemmas.List.{length-take-le, take-take}
 use Rattle.std.specs.Prelude.{IfSome, ◌⊎◌}
 use Rattle.std.specs.Io.{StartsWith}
 use Rattle.std.specs.Io.KnownBytes.{Consumes, IsAtEnd}
-use Rattle.fmb_run.specs.Text.{IsReadOf}
+use Rattle.capture_text.specs.Capture.{capture_of}
+use Rattle.capture_text.specs.declared.fault.CaptureFault.TheVariants.{TextTooLong}
+use Rattle.fmb_run.specs.Text.{IsReadOf, IsTextOf, OfText}
+use Rattle.fmb_show.specs.Shown.{Print, capture_print, shown}
 use Rattle.trial_bench.specs.PlainScript.{script_of}
 use Rattle.trial_bench.proofs.Reading.{too_long}
 
@@ -52,3 +56,35 @@ pub same_script : (told : Option (List ℕ)) (text : List ℕ) → IsReadOf told
 same_script None text read = (text, tt, refl)
 same_script (Some whole) text (inl e) = (whole, refl, ap script_of (sym e))
 same_script (Some whole) text (inr p) = (whole, refl, too_long whole (too_long_along whole text p.0 p.1) ∙ sym (too_long text p.0))
+
+-- a capture that is too long
+long_capture : (text : List ℕ) → 2 ^ 24 < length text → capture_of text ≡ Err (record { line = 0; fault = TextTooLong })
+unfolding capture_of
+long_capture text h = let e : nat_lt (2 ^ 24) (length text) ≡ true = grind (arith, nat_tests) in rw e refl
+
+-- the same is shown of the whole text of a source as of what was read of it
+pub same_shown : (told : Option (List ℕ)) (text : List ℕ) → IsReadOf told text → (whole : List ℕ) × IsTextOf told whole × (shown whole ≡ shown text)
+same_shown None text read = (text, tt, refl)
+same_shown (Some whole) text (inl e) = (whole, refl, ap shown (sym e))
+same_shown (Some whole) text (inr p) = (
+  whole,
+  refl,
+  ap capture_print (long_capture whole (too_long_along whole text p.0 p.1) ∙ sym (long_capture text p.0)),
+)
+
+-- so what holds of what is shown of the text that was read holds of what is shown of the source's text
+pub of_whole : (told : Option (List ℕ)) (text : List ℕ) (P : Print → Type 0) → IsReadOf told text → P (shown text) → OfText told (λ text. P (shown text))
+of_whole told text P read holds = let found = same_shown told text read in (found.0, found.1, subst P (sym found.2) holds)
+
+-- and the other way round, where the source tells its text
+pub of_told : (told : Option (List ℕ)) (text whole : List ℕ) → IsReadOf told text → told ≡ Some whole → shown whole ≡ shown text
+of_told told text whole read is =
+    let found = same_shown told text read in
+    let T : Option (List ℕ) → Type 0 = λ t. IsTextOf t found.0 in
+    let same : whole ≡ found.0 = subst T is found.1 in
+    ap shown same ∙ found.2
+
+-- a source has some text
+pub some_text : (told : Option (List ℕ)) → (text : List ℕ) × IsTextOf told text
+some_text None = ([], tt)
+some_text (Some whole) = (whole, refl)

@@ -1,11 +1,18 @@
 -- What a trial comes to, put together of its steps.
-use Rattle.std.proofs.Common.{◌≡◌, ◌+◌, ℕ, Bool, List, Option, IfSome, refl, ◌∙◌, ap, inl, inr, arith}
+use Rattle.std.proofs.Common.{◌≡◌, ◌+◌, ℕ, Bool, List, Option, IfSome, refl, sym, ◌∙◌, ap, inl, inr, arith}
 use Rattle.std.specs.Prelude.{codes}
 use Rattle.fmb_host.specs.Host.{HostView, HandsOut, TakesBack, with_host_fault}
+use Rattle.fmb_host.specs.Writes.{PrintsLine}
 use Rattle.fmb_run.proofs.ReadLemmas.{same_script}
 use Rattle.fmb_run.specs.Printed.{Prints}
-use Rattle.fmb_run.specs.Text.{IsReadOf, IsReturned, ReadsText}
+use Rattle.fmb_run.specs.Text.{IsOpened, IsReadOf, IsReturned, IsTextOf, ReadsText}
 use Rattle.fmb_run.specs.Trial.{RanTrial}
+
+-- a line that was printed on a sink was printed on what is the same sink
+pub prints_on : {Out : Type 0} (written : Out → Option (List ℕ)) (failures : Out → ℕ) (line : List ℕ) (first last before after : Out)
+    → PrintsLine line (written first) (written last) (failures first) (failures last) → before ≡ first → after ≡ last
+    → PrintsLine line (written before) (written after) (failures before) (failures after)
+prints_on written failures line first last before after printed begins ends = rw begins (rw ends printed)
 
 module _ {Text Out : Type 0} where
   -- a text that was handed out and came back
@@ -33,6 +40,36 @@ module _ {Text Out : Type 0} where
         };
         same = found.2;
       }
+
+  -- a text was handed out, the sink alone was used, and the text came back
+  pub used_and_back : (before mid used after : HostView Text Out) (out : Out) (failures : ℕ) (source read : Text)
+      → HandsOut before source mid → used ≡ record mid { sink = out } → TakesBack used failures read after → IsReturned before after
+  used_and_back before mid used after out failures source read first only back = record {
+    source = source;
+    read = read;
+    next = rw (← (ap (λ h. h.texts) back.others ∙ ap (λ h. h.texts) only)) at first.first;
+    last = rw (ap (λ h. h.texts_back) only ∙ ap (λ h. h.texts_back) first.others) at back.last;
+  }
+
+  -- and so it was opened
+  pub opened_and_used : (left name : Text → Option (List ℕ)) (word text : List ℕ) (before mid used after : HostView Text Out) (out : Out) (failures : ℕ) (source read : Text)
+      → HandsOut before source mid → IfSome (name source) (λ told. told ≡ word) → used ≡ record mid { sink = out } → TakesBack used failures read after
+      → IsTextOf (left source) text → IsOpened left name word text before after
+  opened_and_used left name word text before mid used after out failures source read first named only back told = record {
+    source = source;
+    next = rw (← (ap (λ h. h.texts) back.others ∙ ap (λ h. h.texts) only)) at first.first;
+    named = named;
+    bytes = told;
+  }
+
+  -- and a line that was printed on its sink meanwhile was printed on the host
+  pub printed_and_back : (written : Out → Option (List ℕ)) (count : Out → ℕ) (line : List ℕ) (before mid used after : HostView Text Out) (first last : Out) (failures : ℕ) (source read : Text)
+      → HandsOut before source mid → first ≡ mid.sink → used ≡ record mid { sink = last } → TakesBack used failures read after
+      → PrintsLine line (written first) (written last) (count first) (count last) → Prints written count line before after
+  printed_and_back written count line before mid used after first last failures source read out lent only back printed =
+      let begins : before.sink ≡ first = sym (lent ∙ ap (λ h. h.sink) out.others) in
+      let ends : after.sink ≡ last = ap (λ h. h.sink) back.others ∙ ap (λ h. h.sink) only in
+      prints_on written count line first last before.sink after.sink printed begins ends
 
   -- what was handed out and came back stays so where neither list changes
   returned_along : (before mid after : HostView Text Out) → IsReturned before mid → after.texts ≡ mid.texts → after.texts_back ≡ mid.texts_back → IsReturned before after

@@ -1,4 +1,4 @@
+pub mod Asked
 pub mod Printed
 pub mod Text
 pub mod Trial
-pub mod Words

@@ -1,18 +1,13 @@
 -- What is written of a text where a sink may fail (this project's own).
-use Rattle.std.specs.Prelude.{ℕ, ◌≤◌, ◌⊎◌, List, take, Option}
+use Rattle.std.specs.Prelude.{ℕ, List, ◌++◌, take, Option, codes}
 use Rattle.std.specs.Io.KnownBytes.{Appends}
 use Rattle.avl_values.specs.Causes.{Rose}
 use Rattle.fmb_host.specs.Host.{HostView}
+use Rattle.fmb_host.specs.Writes.{AppendsFront, PrintsLine}
 
--- the first bytes of the text were written
-abbrev pub AppendsFront : Option (List ℕ) → Option (List ℕ) → List ℕ → Type 0
-AppendsFront before after text = (n : ℕ) × Appends before after (take n text)
-
--- the front of a line was written, and the whole line unless the sink failed
-pub record PrintsLine (line : List ℕ) (before after : Option (List ℕ)) (failures failures' : ℕ) : Type 0 where
-  pub front : AppendsFront before after line
-  pub whole : Appends before after line ⊎ Rose failures failures'
-  pub later : failures ≤ failures'
+-- the front of a text, and then the line that memory ran out
+abbrev pub front_and_line : ℕ → List ℕ → List ℕ
+front_and_line n text = take n text ++ codes "no memory\n"
 
 module _ {Text Out : Type 0} (written : Out → Option (List ℕ)) (failures : Out → ℕ) where
   -- a host's sink was given a line

@@ -1,13 +1,28 @@
--- The text that a trial reads from its host (this project's own).
-use Rattle.std.specs.Prelude.{◌≡◌, ◌<◌, ◌^◌, ◌⊎◌, ℕ, List, Option, None, Some, IfSome, ⊤, length}
+-- The text that is read from a source, or from a host (this project's own).
+use Rattle.std.specs.Prelude.{◌≡◌, ◌<◌, ◌^◌, ◌⊎◌, ℕ, List, ◌∷◌, Option, None, Some, IfSome, ⊤, length}
 use Rattle.std.specs.Io.{StartsWith}
 use Rattle.fmb_host.specs.Host.{HostView, LosesFirst, GainsLast}
 use Rattle.trial_bench.specs.PlainScript.{script_of}
 
--- what was read of a source: all that it had left, where it tells that, or more bytes than a script may have
+-- where a source tells what it has left, it is this text
+abbrev pub IsTextOf : Option (List ℕ) → List ℕ → Type 0
+IsTextOf told text = IfSome told (λ bytes. bytes ≡ text)
+
+-- this holds of a text that a source has left
+abbrev pub OfText : Option (List ℕ) → (List ℕ → Type 0) → Type 0
+OfText told P = (text : List ℕ) × IsTextOf told text × P text
+
+-- what was read of a source: all that it had left, where it tells that, or more bytes than a script or a capture may have
 abbrev pub IsReadOf : Option (List ℕ) → List ℕ → Type 0
 IsReadOf None text = ⊤
 IsReadOf (Some whole) text = (text ≡ whole) ⊎ ((2 ^ 24 < length text) × StartsWith whole text)
+
+-- the host tells that the text which it will hand out next is this one
+pub record HasNext {Text Out : Type 0} (left : Text → Option (List ℕ)) (text : List ℕ) (host : HostView Text Out) : Type 0 where
+  pub source : Text
+  pub later : List Text
+  pub texts : host.texts ≡ Some (source ∷ later)
+  pub told : left source ≡ Some text
 
 module _ {Text Out : Type 0} (left name : Text → Option (List ℕ)) where
   -- a text was opened under a name: the host's next one where it tells them, and named so where it tells its name, with
@@ -16,7 +31,11 @@ module _ {Text Out : Type 0} (left name : Text → Option (List ℕ)) where
     pub source : Text
     pub next : LosesFirst before.texts source after.texts
     pub named : IfSome (name source) (λ told. told ≡ word)
-    pub bytes : IfSome (left source) (λ told. told ≡ text)
+    pub bytes : IsTextOf (left source) text
+
+  -- a text was opened under a name, and this holds of it
+  abbrev pub OfOpened : List ℕ → HostView Text Out → HostView Text Out → (List ℕ → Type 0) → Type 0
+  OfOpened word before after P = (text : List ℕ) × IsOpened word text before after × P text
 
   -- A text was read: `text` is all its bytes, or those of its front that make it too long for a script, so that both are the
   -- same script.
@@ -24,6 +43,10 @@ module _ {Text Out : Type 0} (left name : Text → Option (List ℕ)) where
     pub whole : List ℕ
     pub opened : IsOpened word whole before after
     pub same : script_of whole ≡ script_of text
+
+-- no text was handed out, and none came back
+abbrev pub OpensNothing : {Text Out : Type 0} → HostView Text Out → HostView Text Out → Type 0
+OpensNothing before after = (after.texts ≡ before.texts) × (after.texts_back ≡ before.texts_back)
 
 -- a text was handed out, and one came back
 pub record IsReturned {Text Out : Type 0} (before after : HostView Text Out) : Type 0 where

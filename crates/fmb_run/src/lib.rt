@@ -1,18 +1,20 @@
 //! The program over any host: the words that it is started with, the text that it reads, and the status that it ends with.
-//! Each status has its cause and its printed line as clauses of `run`, and the outcome of a trial that was played has all
-//! that every trial keeps.
+//! Each status has its cause and its printed line as clauses of `run`; the outcome of a trial that was played has all that every
+//! trial keeps, and of a capture all is printed that stands in it, up to its first fault.
 #![tactic(auto)]
 
 mod judging;
 mod printing;
 mod reading;
 mod running;
+mod showing;
 mod status;
 #[cfg(test)]
 mod tests;
 
 pub use judging::give_up;
 pub use running::{run, run_trial};
+pub use showing::run_show;
 pub use status::{
     DONE, HOST_FAULT, NO_MEMORY, REFUSED_TEXT, REFUSED_WORDS, SINK_FAULT, SOURCE_FAULT,
 };

@@ -1,23 +1,9 @@
 ghost use Rattle.std.specs.Prelude.{◌≡◌, OnOk};
-ghost use Rattle.std.specs.Io.KnownBytes.{Appends};
 ghost use Rattle.avl_values.specs.Causes.{HasCause};
-ghost use Rattle.fmb_run.specs.Printed.{AppendsFront, Prints, PrintsFront, PrintsWhole};
+ghost use Rattle.fmb_run.specs.Printed.{Prints, PrintsFront, PrintsWhole};
 
 use avl_values::Failed;
-use fmb_host::{Host, Sink};
-
-/// Writes a whole text, in the pieces that the sink takes. At `Failed` the front of it was written.
-fn put<K: Sink>(sink: &mut K, text: &[u8]) -> Result<(), Failed>
-    ensures whole { OnOk result (Appends (K.written sink.old) (K.written sink.new) text.now) }
-    ensures front { AppendsFront (K.written sink.old) (K.written sink.new) text.now }
-    ensures cause { HasCause (K.failures sink.old) (K.failures sink.new) result }
-{
-    let mut at = 0;
-    while at < text.len() {
-        at += sink.write(&text[at..])?;
-    }
-    Ok(())
-}
+use fmb_host::{Host, write_text};
 
 /// Writes a whole text on the host's sink, and changes nothing else of the host.
 pub(crate) fn print<H: Host>(host: &mut H, text: &[u8]) -> Result<(), Failed>
@@ -26,7 +12,7 @@ pub(crate) fn print<H: Host>(host: &mut H, text: &[u8]) -> Result<(), Failed>
     ensures cause { HasCause (H.Out.failures (H.view host.old).sink) (H.Out.failures (H.view host.new).sink) result }
     ensures others { H.view host.new ≡ record (H.view host.old) { sink = (H.view host.new).sink } }
 {
-    put(host.out(), text)
+    write_text(host.out(), text)
 }
 
 /// Writes a line on the host's sink, and changes nothing else of the host. That the sink fails on it changes nothing more.

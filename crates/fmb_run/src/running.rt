@@ -1,16 +1,21 @@
-ghost use Rattle.std.specs.Prelude.{◌≡◌, ◌≢◌, ◌⊎◌, ◌↔◌, ◌+◌, List, ℕ, IfOk, Err, codes, false, map, string_bytes};
+ghost use Rattle.std.specs.Prelude.{◌≡◌, ◌≢◌, ◌⊎◌, ◌+◌, List, ℕ, IfOk, Err, None, codes, false, true, map, string_bytes};
 ghost use Rattle.fmb_host.specs.Host.{AreSmall, with_host_fault};
-ghost use Rattle.fmb_run.specs.Printed.{Prints, PrintsFront, PrintsWhole, SinkFailed};
-ghost use Rattle.fmb_run.specs.Text.{IsOpened, IsReturned, ReadsText};
+ghost use Rattle.fmb_run.specs.Asked.{IfShow, IfTrial};
+ghost use Rattle.fmb_run.specs.Printed.{Prints, PrintsFront, PrintsWhole, SinkFailed, front_and_line};
+ghost use Rattle.fmb_run.specs.Text.{HasNext, IsReturned, OfOpened, OpensNothing, ReadsText};
 ghost use Rattle.fmb_run.specs.Trial.{IfKept, IsPlayed, IsRefused, RanTrial};
-ghost use Rattle.fmb_run.specs.Words.{is_trial, name_of};
+ghost use Rattle.fmb_show.specs.Shown.{shown as shown_of};
 ghost use Rattle.fmb_text.specs.Report.{report};
+ghost use Rattle.fmb_words.specs.PlainWords.{names_command};
+ghost use Rattle.fmb_words.specs.Words.{words_of};
 
 use crate::judging::{give_up, judge};
 use crate::printing::say;
 use crate::reading::{Unread, read_text};
+use crate::showing::run_show;
 use crate::status::{HOST_FAULT, REFUSED_WORDS, SOURCE_FAULT};
 use fmb_host::Host;
+use fmb_words::{Words, WordsFault, read_words};
 use std::alloc::Global;
 
 /// Why a text was not had from the host.
@@ -64,37 +69,74 @@ pub fn run_trial<H: Host>(alloc: Global, host: &mut H, name: &str, brief: bool) 
     }
 }
 
-fn is_trial_words(words: &[String]) -> bool
-    ensures { result ≡ is_trial (map string_bytes words.now) }
+/// Opens a text, prints as a capture what stands in it, and gives it back. Answers the status.
+fn show_file<H: Host>(alloc: Global, host: &mut H, name: &str) -> u8
+    requires { AreSmall (H.view host.old).counts }
+    ensures among { (result ≡ 0) ⊎ (result ≡ 3) ⊎ (result ≡ 4) ⊎ (result ≡ 5) ⊎ (result ≡ 7) ⊎ (result ≡ 9) }
+    ensures shown { result ≡ 0 → OfOpened H.Text.left H.Text.name name.now (H.view host.old) (H.view host.new) (λ text. ((shown_of text).faulty ≡ false)
+        × PrintsWhole H.Out.written H.Out.failures (shown_of text).text (H.view host.old) (H.view host.new)) }
+    ensures faulty { result ≡ 3 → OfOpened H.Text.left H.Text.name name.now (H.view host.old) (H.view host.new) (λ text. ((shown_of text).faulty ≡ true)
+        × Prints H.Out.written H.Out.failures (shown_of text).text (H.view host.old) (H.view host.new)) }
+    ensures cut_off { result ≡ 5 → OfOpened H.Text.left H.Text.name name.now (H.view host.old) (H.view host.new) (λ text. ((shown_of text).faulty ≡ false)
+        × PrintsFront H.Out.written H.Out.failures (shown_of text).text (H.view host.old) (H.view host.new)) }
+    ensures sink_cause { result ≡ 5 → SinkFailed H.Out.written H.Out.failures (H.view host.old) (H.view host.new) }
+    ensures source_cause { result ≡ 4 → (H.view host.new).counts ≡ record (H.view host.old).counts { texts = (H.view host.old).counts.texts + 1 } }
+    ensures source_line { result ≡ 4 → Prints H.Out.written H.Out.failures (codes "source fault\n") (H.view host.old) (H.view host.new) }
+    ensures host_cause { result ≡ 7 → (H.view host.new).counts ≡ record (H.view host.old).counts { host = (H.view host.old).counts.host + 1 } }
+    ensures host_line { result ≡ 7 → Prints H.Out.written H.Out.failures (codes "host fault\n") (H.view host.old) (H.view host.new) }
+    ensures no_memory { result ≡ 9 → OfOpened H.Text.left H.Text.name name.now (H.view host.old) (H.view host.new) (λ text. (n : ℕ)
+        × Prints H.Out.written H.Out.failures (front_and_line n (shown_of text).text) (H.view host.old) (H.view host.new)) }
+    ensures counts_before { result ≢ 4 → result ≢ 7 → (H.view host.new).counts ≡ (H.view host.old).counts }
+    ensures kept_before { (H.view host.new).kept ≡ (H.view host.old).kept }
+    ensures returned { result ≢ 7 → IsReturned (H.view host.old) (H.view host.new) }
+    ensures nothing_opened { result ≡ 7 → OpensNothing (H.view host.old) (H.view host.new) }
 {
-    match words {
-        [word, _] => word.as_str() == "trial",
-        _ => false,
-    }
+    let Ok(mut source) = host.open_text(name) else {
+        say(host, b"host fault\n");
+        return HOST_FAULT;
+    };
+    let status = run_show(alloc, &mut source, host.out());
+    host.text_back(source);
+    status
 }
 
-/// Does what the words behind the program's name say, which are `trial` and the name of a script, and answers the status.
+/// Does what the words behind the program's name ask for, which are `show` or `trial` and the name of a file, and answers the
+/// status. `show` changes nothing that the host keeps.
 pub fn run<H: Host>(alloc: Global, words: &[String], host: &mut H) -> u8
     requires { AreSmall (H.view host.old).counts }
     ensures among { (result ≡ 0) ⊎ (result ≡ 2) ⊎ (result ≡ 3) ⊎ (result ≡ 4) ⊎ (result ≡ 5) ⊎ (result ≡ 7) ⊎ (result ≡ 9) }
 
-    // 0 and 5: the script was read to its end and played, and the outcome that the host then keeps has what a trial keeps
-    ensures played { (result ≡ 0) ⊎ (result ≡ 5) → (text : List ℕ)
-        × IsOpened H.Text.left H.Text.name (name_of (map string_bytes words.now)) text (H.view host.old) (H.view host.new)
-        × IsPlayed text (H.view host.new).kept }
-    ensures reported { result ≡ 0 → IfKept (H.view host.new).kept (λ outcome. PrintsWhole H.Out.written H.Out.failures (report outcome false) (H.view host.old) (H.view host.new)) }
-    ensures cut_off { result ≡ 5 → IfKept (H.view host.new).kept (λ outcome. PrintsFront H.Out.written H.Out.failures (report outcome false) (H.view host.old) (H.view host.new)) }
+    // 0 and 5 of a trial: the script was read to its end and played, and the outcome that the host then keeps has what a trial keeps
+    ensures played { IfTrial (words_of (map string_bytes words.now)) (λ file. (result ≡ 0) ⊎ (result ≡ 5)
+        → OfOpened H.Text.left H.Text.name file (H.view host.old) (H.view host.new) (λ text. IsPlayed text (H.view host.new).kept)) }
+    ensures reported { IfTrial (words_of (map string_bytes words.now)) (λ file. result ≡ 0
+        → IfKept (H.view host.new).kept (λ outcome. PrintsWhole H.Out.written H.Out.failures (report outcome false) (H.view host.old) (H.view host.new))) }
+    ensures cut_off { IfTrial (words_of (map string_bytes words.now)) (λ file. result ≡ 5
+        → IfKept (H.view host.new).kept (λ outcome. PrintsFront H.Out.written H.Out.failures (report outcome false) (H.view host.old) (H.view host.new))) }
+
+    // 0 and 5 of a capture: it was read to its end and has no fault, and all or a front of what is shown of it was written
+    ensures shown { IfShow (words_of (map string_bytes words.now)) (λ file. result ≡ 0
+        → OfOpened H.Text.left H.Text.name file (H.view host.old) (H.view host.new) (λ text. ((shown_of text).faulty ≡ false)
+        × PrintsWhole H.Out.written H.Out.failures (shown_of text).text (H.view host.old) (H.view host.new))) }
+    ensures shown_cut_off { IfShow (words_of (map string_bytes words.now)) (λ file. result ≡ 5
+        → OfOpened H.Text.left H.Text.name file (H.view host.old) (H.view host.new) (λ text. ((shown_of text).faulty ≡ false)
+        × PrintsFront H.Out.written H.Out.failures (shown_of text).text (H.view host.old) (H.view host.new))) }
     ensures sink_cause { result ≡ 5 → SinkFailed H.Out.written H.Out.failures (H.view host.old) (H.view host.new) }
 
-    // 2: exactly where the words are others
-    ensures words { (result ≡ 2) ↔ (is_trial (map string_bytes words.now) ≡ false) }
+    // 2: exactly where the words ask for nothing, but that memory may run out while they are read
+    ensures words { result ≡ 2 → words_of (map string_bytes words.now) ≡ None }
+    ensures no_words { words_of (map string_bytes words.now) ≡ None → (result ≡ 2) ⊎ (result ≡ 9) }
+    ensures unknown_command { names_command (map string_bytes words.now) ≡ false → result ≡ 2 }
     ensures words_line { result ≡ 2 → Prints H.Out.written H.Out.failures (codes "refused words\n") (H.view host.old) (H.view host.new) }
-    ensures words_others { result ≡ 2 → H.view host.new ≡ record (H.view host.old) { sink = (H.view host.new).sink } }
+    ensures words_others { words_of (map string_bytes words.now) ≡ None → H.view host.new ≡ record (H.view host.old) { sink = (H.view host.new).sink } }
 
-    // 3: the script has a first fault, whose line is printed
-    ensures refused { result ≡ 3 → (text : List ℕ)
-        × IsOpened H.Text.left H.Text.name (name_of (map string_bytes words.now)) text (H.view host.old) (H.view host.new)
-        × IsRefused text (λ line. Prints H.Out.written H.Out.failures line (H.view host.old) (H.view host.new)) }
+    // 3: the script has a first fault, whose line is printed; or the capture has one, whose line is the last that is shown
+    ensures refused { IfTrial (words_of (map string_bytes words.now)) (λ file. result ≡ 3
+        → OfOpened H.Text.left H.Text.name file (H.view host.old) (H.view host.new) (λ text.
+        IsRefused text (λ line. Prints H.Out.written H.Out.failures line (H.view host.old) (H.view host.new)))) }
+    ensures faulty { IfShow (words_of (map string_bytes words.now)) (λ file. result ≡ 3
+        → OfOpened H.Text.left H.Text.name file (H.view host.old) (H.view host.new) (λ text. ((shown_of text).faulty ≡ true)
+        × Prints H.Out.written H.Out.failures (shown_of text).text (H.view host.old) (H.view host.new))) }
 
     // 4 and 7: the text failed, or its opening; the host has counted that
     ensures source_cause { result ≡ 4 → (H.view host.new).counts ≡ record (H.view host.old).counts { texts = (H.view host.old).counts.texts + 1 } }
@@ -102,18 +144,38 @@ pub fn run<H: Host>(alloc: Global, words: &[String], host: &mut H) -> u8
     ensures host_cause { result ≡ 7 → (H.view host.new).counts ≡ record (H.view host.old).counts { host = (H.view host.old).counts.host + 1 } }
     ensures host_line { result ≡ 7 → Prints H.Out.written H.Out.failures (codes "host fault\n") (H.view host.old) (H.view host.new) }
 
-    // 9: memory ran out
-    ensures no_memory { result ≡ 9 → Prints H.Out.written H.Out.failures (codes "no memory\n") (H.view host.old) (H.view host.new) }
+    // 9: memory ran out; of a capture a front may stand before the line, once it was opened
+    ensures no_memory { result ≡ 9 → IfTrial (words_of (map string_bytes words.now)) (λ file.
+        Prints H.Out.written H.Out.failures (codes "no memory\n") (H.view host.old) (H.view host.new)) }
+    ensures no_memory_shown { result ≡ 9 → IfShow (words_of (map string_bytes words.now)) (λ file.
+        OfOpened H.Text.left H.Text.name file (H.view host.old) (H.view host.new) (λ text. (n : ℕ)
+        × Prints H.Out.written H.Out.failures (front_and_line n (shown_of text).text) (H.view host.old) (H.view host.new))
+        ⊎ (OpensNothing (H.view host.old) (H.view host.new)
+        × Prints H.Out.written H.Out.failures (codes "no memory\n") (H.view host.old) (H.view host.new))) }
+    ensures no_memory_for_words { words_of (map string_bytes words.now) ≡ None → result ≡ 9
+        → Prints H.Out.written H.Out.failures (codes "no memory\n") (H.view host.old) (H.view host.new) }
+    ensures returned_or_unopened { result ≡ 9 → IsReturned (H.view host.old) (H.view host.new) ⊎ OpensNothing (H.view host.old) (H.view host.new) }
 
     // what the other statuses leave, and what is given back
     ensures counts_before { result ≢ 4 → result ≢ 7 → (H.view host.new).counts ≡ (H.view host.old).counts }
     ensures kept_before { result ≢ 0 → result ≢ 5 → (H.view host.new).kept ≡ (H.view host.old).kept }
-    ensures returned { result ≢ 2 → result ≢ 7 → IsReturned (H.view host.old) (H.view host.new) }
-    ensures nothing_opened { result ≡ 7 → ((H.view host.new).texts ≡ (H.view host.old).texts) × ((H.view host.new).texts_back ≡ (H.view host.old).texts_back) }
+    ensures kept_by_show { IfShow (words_of (map string_bytes words.now)) (λ file. (H.view host.new).kept ≡ (H.view host.old).kept) }
+    ensures returned { result ≢ 2 → result ≢ 7 → result ≢ 9 → IsReturned (H.view host.old) (H.view host.new) }
+    ensures nothing_opened { result ≡ 7 → OpensNothing (H.view host.old) (H.view host.new) }
+
+    // a capture that the host tells and that has no fault was shown where nothing failed, or memory ran out
+    ensures show_complete { IfShow (words_of (map string_bytes words.now)) (λ file. (text : List ℕ)
+        → HasNext H.Text.left text (H.view host.old) → (shown_of text).faulty ≡ false
+        → (H.view host.new).counts ≡ (H.view host.old).counts → (SinkFailed H.Out.written H.Out.failures (H.view host.old) (H.view host.new) → ⊥)
+        → (result ≡ 0) ⊎ (result ≡ 9)) }
 {
-    if is_trial_words(words) {
-        return run_trial(alloc, host, words[1].as_str(), false);
+    match read_words(alloc, words) {
+        Ok(Words::Show { file }) => show_file(alloc, host, file),
+        Ok(Words::Trial { file }) => run_trial(alloc, host, file, false),
+        Err(WordsFault::Refused) => {
+            say(host, b"refused words\n");
+            REFUSED_WORDS
+        }
+        Err(WordsFault::NoMemory) => give_up(host),
     }
-    say(host, b"refused words\n");
-    REFUSED_WORDS
 }

@@ -77,6 +77,172 @@ round 356307042441013 7 - -
 "
 }
 
+/// Teltonika's frame of one Codec 8 record.
+fn one_record() -> &'static str {
+    "\
+frames 000000000000003608010000016B40D8EA30010000000000000000000000000000000105021503010101425E0F01F10000601A014E0000000000000000010000C7CF
+"
+}
+
+fn one_record_shown() -> &'static str {
+    "\
+{\"codec\":8,\"count\":1,\"item\":\"packet\",\"line\":1}
+{\"altitude\":0,\"angle\":0,\"event\":1,\"generation\":null,\"io\":[[21,1,3],[1,1,1],[66,2,24079],[241,4,24602],[78,8,0]],\"item\":\"record\",\"latitude\":0,\"line\":1,\"longitude\":0,\"nx\":[],\"priority\":1,\"satellites\":0,\"speed\":0,\"time\":1560161086000}
+"
+}
+
+/// Teltonika's frame of one Codec 8 Extended record.
+fn extended_record() -> &'static str {
+    "\
+frames 000000000000004A8E010000016B412CEE000100000000000000000000000000000000010005000100010100010011001D00010010015E2C880002000B000000003544C87A000E000000001DD7E06A00000100002994
+"
+}
+
+fn extended_record_shown() -> &'static str {
+    "\
+{\"codec\":142,\"count\":1,\"item\":\"packet\",\"line\":1}
+{\"altitude\":0,\"angle\":0,\"event\":1,\"generation\":null,\"io\":[[1,1,1],[17,2,29],[16,4,22949000],[11,8,893700218],[14,8,500686954]],\"item\":\"record\",\"latitude\":0,\"line\":1,\"longitude\":0,\"nx\":[],\"priority\":1,\"satellites\":0,\"speed\":0,\"time\":1560166592000}
+"
+}
+
+/// Teltonika's frame of two Codec 16 records.
+fn two_records() -> &'static str {
+    "\
+frames 000000000000005F10020000016BDBC7833000000000000000000000000000000000000B05040200010000030002000B00270042563A00000000016BDBC7871800000000000000000000000000000000000B05040200010000030002000B00260042563A00000200005FB3
+"
+}
+
+fn two_records_shown() -> &'static str {
+    "\
+{\"codec\":16,\"count\":2,\"item\":\"packet\",\"line\":1}
+{\"altitude\":0,\"angle\":0,\"event\":11,\"generation\":5,\"io\":[[1,1,0],[3,1,0],[11,2,39],[66,2,22074]],\"item\":\"record\",\"latitude\":0,\"line\":1,\"longitude\":0,\"nx\":[],\"priority\":0,\"satellites\":0,\"speed\":0,\"time\":1562760414000}
+{\"altitude\":0,\"angle\":0,\"event\":11,\"generation\":5,\"io\":[[1,1,0],[3,1,0],[11,2,38],[66,2,22074]],\"item\":\"record\",\"latitude\":0,\"line\":1,\"longitude\":0,\"nx\":[],\"priority\":0,\"satellites\":0,\"speed\":0,\"time\":1562760415000}
+"
+}
+
+/// Teltonika's command `getinfo` of Codec 12.
+fn command() -> &'static str {
+    "answers 000000000000000F0C010500000007676574696E666F0100004312\n"
+}
+
+fn command_shown() -> &'static str {
+    "\
+{\"codec\":12,\"imei\":null,\"item\":\"command\",\"kind\":5,\"line\":1,\"text\":\"676574696e666f\",\"time\":null}
+"
+}
+
+/// Teltonika's command `getver` of Codec 14.
+fn device_command() -> &'static str {
+    "\
+answers 00000000000000160E01050000000E0352093081452251676574766572010000D2C1
+"
+}
+
+fn device_command_shown() -> &'static str {
+    "\
+{\"codec\":14,\"imei\":\"352093081452251\",\"item\":\"command\",\"kind\":5,\"line\":1,\"text\":\"676574766572\",\"time\":null}
+"
+}
+
+/// Teltonika's datagram and its reply.
+fn datagram_and_reply() -> &'static str {
+    "\
+udp 003DCAFE0105000F33353230393330383634303336353508010000016B4F815B30010000000000000000000000000000000103021503010101425DBC000001
+reply 0005CAFE010501
+"
+}
+
+fn datagram_and_reply_shown() -> &'static str {
+    "\
+{\"avl_packet\":5,\"imei\":\"352093086403655\",\"item\":\"datagram\",\"line\":1,\"packet\":51966,\"unused\":1}
+{\"codec\":8,\"count\":1,\"item\":\"packet\",\"line\":1}
+{\"altitude\":0,\"angle\":0,\"event\":1,\"generation\":null,\"io\":[[21,1,3],[1,1,1],[66,2,23996]],\"item\":\"record\",\"latitude\":0,\"line\":1,\"longitude\":0,\"nx\":[],\"priority\":1,\"satellites\":0,\"speed\":0,\"time\":1560407006000}
+{\"avl_packet\":5,\"count\":1,\"item\":\"reply\",\"line\":2,\"packet\":51966,\"unused\":1}
+"
+}
+
+/// The frame of one record with another checksum.
+fn other_checksum() -> &'static str {
+    "\
+frames 000000000000003608010000016B40D8EA30010000000000000000000000000000000105021503010101425E0F01F10000601A014E0000000000000000010000C7CE
+"
+}
+
+/// The frame of one record with a checksum above 65,535.
+fn high_checksum() -> &'static str {
+    "\
+frames 000000000000003608010000016B40D8EA30010000000000000000000000000000000105021503010101425E0F01F10000601A014E0000000000000000010001C7CF
+"
+}
+
+/// The frame of one record with a total of 4 elements.
+fn other_total() -> &'static str {
+    "\
+frames 000000000000003608010000016B40D8EA30010000000000000000000000000000000104021503010101425E0F01F10000601A014E0000000000000000010000C7CF
+"
+}
+
+/// A login whose last digit is a letter.
+fn lettered_login() -> &'static str {
+    "up 000F333536333037303432343431303141\n"
+}
+
+/// The frame of one record, and a login of 16 digits.
+fn record_and_fault() -> &'static str {
+    "\
+frames 000000000000003608010000016B40D8EA30010000000000000000000000000000000105021503010101425E0F01F10000601A014E0000000000000000010000C7CF
+up 0010
+"
+}
+
+fn record_and_fault_shown() -> &'static str {
+    "\
+{\"codec\":8,\"count\":1,\"item\":\"packet\",\"line\":1}
+{\"altitude\":0,\"angle\":0,\"event\":1,\"generation\":null,\"io\":[[21,1,3],[1,1,1],[66,2,24079],[241,4,24602],[78,8,0]],\"item\":\"record\",\"latitude\":0,\"line\":1,\"longitude\":0,\"nx\":[],\"priority\":1,\"satellites\":0,\"speed\":0,\"time\":1560161086000}
+{\"fault\":\"LoginLength\",\"item\":\"fault\",\"line\":2,\"number\":11,\"place\":0}
+"
+}
+
+fn other_checksum_shown() -> &'static str {
+    "\
+{\"fault\":\"CrcMismatch\",\"item\":\"fault\",\"line\":1,\"number\":10,\"place\":64}
+"
+}
+
+fn high_checksum_shown() -> &'static str {
+    "\
+{\"fault\":\"CrcHigh\",\"item\":\"fault\",\"line\":1,\"number\":9,\"place\":62}
+"
+}
+
+fn other_total_shown() -> &'static str {
+    "\
+{\"fault\":\"TotalMismatch\",\"item\":\"fault\",\"line\":1,\"number\":4,\"place\":51}
+"
+}
+
+fn lettered_login_shown() -> &'static str {
+    "\
+{\"fault\":\"LoginDigit\",\"item\":\"fault\",\"line\":1,\"number\":12,\"place\":16}
+"
+}
+
+fn long_login_shown() -> &'static str {
+    "\
+{\"fault\":\"LoginLength\",\"item\":\"fault\",\"line\":1,\"number\":11,\"place\":0}
+"
+}
+
+fn no_preamble_shown() -> &'static str {
+    "\
+{\"fault\":\"Preamble\",\"item\":\"fault\",\"line\":1,\"number\":7,\"place\":0}
+"
+}
+
+fn other_answer_shown() -> &'static str {
+    "{\"byte\":2,\"item\":\"answer\",\"line\":1}\n"
+}
+
 /// What the host has after a run.
 #[derive(Drop)]
 struct Answer {
@@ -137,6 +303,17 @@ fn run_with(
 ) -> Result<Answer, NoMemory> {
     let host = host_of(alloc, first_round(), opens, reads, writes, room)?;
     run_on(alloc, "trial first_round.fmb", host)
+}
+
+fn show_with(
+    alloc: Global,
+    capture: &str,
+    reads: &[u64],
+    writes: &[u64],
+    room: usize,
+) -> Result<Answer, NoMemory> {
+    let host = host_of(alloc, capture, &[], reads, writes, room)?;
+    run_on(alloc, "show capture", host)
 }
 
 fn run_line(alloc: Global, line: &str, script: &str) -> Result<Answer, NoMemory> {
@@ -204,4 +381,50 @@ fn scripts_and_words_are_answered_as_written_down(rt: HostRuntime) {
     let answer = run_brief(rt.alloc()).expect(&rt, "memory");
     assert_eq!(rt; answer.status, 0);
     assert_eq!(rt; answer.printed.as_slice(), brief_report().as_bytes());
+}
+
+#[test]
+fn captures_are_shown_as_written_down(rt: HostRuntime) {
+    let cases = [
+        (one_record(), 0, one_record_shown()),
+        (extended_record(), 0, extended_record_shown()),
+        (two_records(), 0, two_records_shown()),
+        (command(), 0, command_shown()),
+        (device_command(), 0, device_command_shown()),
+        (datagram_and_reply(), 0, datagram_and_reply_shown()),
+        ("down 02", 0, other_answer_shown()),
+        (other_checksum(), 3, other_checksum_shown()),
+        (high_checksum(), 3, high_checksum_shown()),
+        (other_total(), 3, other_total_shown()),
+        (lettered_login(), 3, lettered_login_shown()),
+        ("up 0010", 3, long_login_shown()),
+        ("frames FF000000", 3, no_preamble_shown()),
+        (record_and_fault(), 3, record_and_fault_shown()),
+        ("up 0", 3, "refused line 1 BadHex\n"),
+    ];
+    for (capture, status, printed) in cases {
+        let answer = run_line(rt.alloc(), "show capture", capture).expect(&rt, "memory");
+        assert_eq!(rt; answer.status, status, "{capture}");
+        assert_eq!(rt; answer.printed.as_slice(), printed.as_bytes());
+        assert!(rt; !answer.is_kept, "show keeps nothing");
+        assert_eq!(rt; answer.back, 1);
+    }
+}
+
+#[test]
+fn fault_of_a_capture_decides_before_the_sink(rt: HostRuntime) {
+    let none: &[u64] = &[];
+    let first: &[u64] = &[0];
+    let cases = [
+        (record_and_fault(), none, first, 1_000, 3, ""),
+        (record_and_fault(), none, none, 8, 3, "{\"codec\""),
+        (one_record(), none, first, 1_000, 5, ""),
+        (one_record(), none, none, 8, 5, "{\"codec\""),
+        (one_record(), first, first, 1_000, 4, ""),
+    ];
+    for (capture, reads, writes, room, status, printed) in cases {
+        let answer = show_with(rt.alloc(), capture, reads, writes, room).expect(&rt, "memory");
+        assert_eq!(rt; answer.status, status);
+        assert_eq!(rt; answer.printed.as_slice(), printed.as_bytes());
+    }
 }

@@ -1,6 +1,6 @@
 use Rattle.std.proofs.Common.{◌∙◌, arith}
-use Rattle.fmb_run.proofs.WriteLemmas.{front_grows}
-use Rattle.fmb_run.proofs.printing.put.Goals as goal
+use Rattle.fmb_host.proofs.WriteLemmas.{front_grows}
+use Rattle.fmb_host.proofs.writing.write_text.Goals as goal
 
 pub loop-at-preserved : goal.loop-at-preserved
 loop-at-preserved g c = (

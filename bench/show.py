@@ -1,0 +1,82 @@
+#!/usr/bin/env python3
+"""Shows captures of 2^23 and 2^24 bytes, lines `frames` of one Codec 8 frame of 200 records each, and prints times and memory beside
+those of a plain Rust program that prints the same lines (bench/show_peer/main.rs, built by rustc where there is one).
+
+Usage: bench/show.py [PROGRAM]; PROGRAM is the built fmb_program, crates/fmb_program/out/fmb_program by default (`rt run` in its folder
+builds it). Wanted: at most twice the plain program's time, under 100 MB, and about twice the time for twice the bytes.
+"""
+import os, shutil, subprocess, sys, tempfile
+
+TOP = os.path.dirname(os.path.dirname(os.path.abspath(__file__)))
+PROGRAM = sys.argv[1] if len(sys.argv) > 1 else os.path.join(TOP, "crates/fmb_program/out/fmb_program")
+RECORDS = 200
+MOST = 2 ** 24
+
+
+def crc16(data):
+    table = []
+    for n in range(256):
+        for _ in range(8):
+            n = (n >> 1) ^ (0xA001 if n & 1 else 0)
+        table.append(n)
+    crc = 0
+    for byte in data:
+        crc = (crc >> 8) ^ table[(crc ^ byte) & 0xFF]
+    return crc
+
+
+def frame(first):
+    """A frame of Codec 8 records without elements, one second apart."""
+    body = bytes([8, RECORDS])
+    for i in range(RECORDS):
+        body += (1560161086000 + (first + i) * 1000).to_bytes(8, "big") + bytes([1])
+        body += (250000000 + i).to_bytes(4, "big") + (546000000 + i).to_bytes(4, "big") + bytes([0, 100, 0, 90, 9, 0, 50])
+        body += bytes(6)
+    body += bytes([RECORDS])
+    return bytes(4) + len(body).to_bytes(4, "big") + body + crc16(body).to_bytes(4, "big")
+
+
+def capture(size):
+    """As many lines as fit into so many bytes."""
+    lines, length = [], 0
+    while True:
+        line = "frames " + frame(len(lines) * RECORDS).hex() + "\n"
+        if length + len(line) > size:
+            return "".join(lines), len(lines)
+        lines.append(line)
+        length += len(line)
+
+
+def run(command, out):
+    """The least user and system seconds of five runs, and the most memory in MB."""
+    best, memory = None, 0
+    for _ in range(5):
+        with open(out, "wb") as sink:
+            child = subprocess.Popen(command, stdout=sink)
+            _, status, usage = os.wait4(child.pid, 0)
+        assert os.waitstatus_to_exitcode(status) == 0, command
+        spent = usage.ru_utime + usage.ru_stime
+        best = spent if best is None else min(best, spent)
+        memory = max(memory, usage.ru_maxrss / 1024)
+    return best, memory
+
+
+with tempfile.TemporaryDirectory() as folder:
+    def path(name):
+        return os.path.join(folder, name)
+
+    times = []
+    for size in (MOST // 2, MOST):
+        text, lines = capture(size)
+        with open(path("capture.fmb"), "w") as f:
+            f.write(text)
+        spent, memory = run([PROGRAM, "show", path("capture.fmb")], path("shown"))
+        times.append(spent)
+        print(f"{len(text)} bytes, {lines} lines: {spent:.2f} s, {memory:.0f} MB, {os.path.getsize(path('shown'))} bytes printed")
+    print(f"twice the bytes take {times[1] / times[0]:.2f} times the time")
+    if shutil.which("rustc"):
+        subprocess.run(["rustc", "-O", "-o", path("peer"), os.path.join(TOP, "bench/show_peer/main.rs")], check=True)
+        spent, _ = run([path("peer"), path("capture.fmb")], path("peer_shown"))
+        with open(path("shown"), "rb") as ours, open(path("peer_shown"), "rb") as theirs:
+            same = ours.read() == theirs.read()
+        print(f"the plain program: {spent:.2f} s, {'the same bytes' if same else 'OTHER BYTES'}; ours takes {times[1] / spent:.2f} times as long")

@@ -1,0 +1,9 @@
+use Rattle.std.proofs.Common.{◌-◌, length}
+use Rattle.fmb_show.proofs.DownShows.{HasShown}
+use Rattle.fmb_show.proofs.down.push_down.Given as goal
+
+abbrev pub invariant-loop-at : goal.invariant-loop-at
+invariant-loop-at l = HasShown l.after_answer l.bytes l.at l.line l.fn.out.items l.out.items l.down
+
+abbrev pub decreases-loop-at : goal.decreases-loop-at
+decreases-loop-at l = length l.bytes - l.at

@@ -1,0 +1,4 @@
+pub mod ItemLines
+pub mod Printing
+pub mod Showed
+pub mod Shown
