@@ -1,5 +1,5 @@
-//! The program: `fmb trial FILE`. It is a host over the file system and standard output, and ends with the status of `run`.
-//! The adapters tell nothing of what a file holds or what standard output took; they count their failures.
+//! The program: `fmb show FILE` and `fmb trial FILE`. It is a host over the file system and standard output, and ends with the status
+//! of `run`. The adapters tell nothing of what a file holds or what standard output took; they count their failures.
 #![tactic(auto)]
 
 mod file;
