@@ -1,5 +1,6 @@
 pub mod BodySteps
 pub mod BodyTakes
+pub mod DataFrames
 pub mod Digits
 pub mod DownPieces
 pub mod DownReads

@@ -1,6 +1,7 @@
 pub mod Bodies
 pub mod BodyIn
 pub mod BodyMachines
+pub mod DataFrames
 pub mod DownBuffers
 pub mod DownMachines
 pub mod DownPushes

@@ -5,6 +5,7 @@
 
 mod body_machine;
 mod body_reader;
+mod data_frame;
 mod down;
 mod down_item;
 mod down_machine;

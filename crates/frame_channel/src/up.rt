@@ -1,12 +1,15 @@
 //! A stream up, in any pieces.
-ghost use Rattle.std.specs.Prelude.{◌≡◌, ◌+◌, ◌<◌, ◌≤◌, [], false, true, length, IfOk};
+ghost use Rattle.std.specs.Prelude.{◌≡◌, ◌+◌, ◌<◌, ◌≤◌, ℕ, List, [], false, true, drop, length, take, IfOk, IfSome};
 ghost use Rattle.layout.specs.Rows.{short};
 ghost use Rattle.frame_layout.specs.UpRows.{up_verdict};
+ghost use Rattle.frame_channel.specs.DataFrames.{BeginsWith, IsNext};
 ghost use Rattle.frame_channel.specs.UpPushes.{Pushed, PushedByte, before_frames, before_login};
 
+use crate::data_frame::{DataFrame, data_frame};
 use crate::up_item::{UpItem, of_frame};
 use crate::up_machine::{UpMachine, UpStep};
 use avl_values::NoMemory;
+use record_layout::PacketHead;
 use std::alloc::Global;
 use std::marker::{Brand, Model};
 use std::mem::swap;
@@ -20,6 +23,15 @@ fn zeros(alloc: Global, len: usize) -> Result<Vec<u8>, NoMemory>
     ensures { IfOk result (λ bytes. length bytes.items ≡ len) }
 {
     Ok(vec![in alloc; 0; len]?)
+}
+
+// Writes a frame's body at its place.
+fn put_body(frame: &mut [u8], body: &[u8])
+    requires { 8 + length body.now ≤ length frame.old }
+    ensures len { length frame.new ≡ length frame.old }
+    ensures body { take (length body.now) (drop 8 frame.new) ≡ body.now }
+{
+    frame[8..8 + body.len()].copy_from_slice(body);
 }
 
 /// A reader of a stream up: a login, and then frames of data bodies and of responses. It is seen as the bytes of its unfinished
@@ -102,12 +114,37 @@ impl Up {
     }
 
     /// Takes bytes up to and including the one that decides the item, or the whole piece, and says how many. It must not have
-    /// answered Broken. The decision falls on the same byte however the stream is cut.
+    /// answered Broken. The decision falls on the same byte however the stream is cut. A data frame that stands whole at the
+    /// piece's front is judged at once, and all else byte by byte.
     pub fn push(&mut self, piece: &[u8]) -> (usize, UpItem)
         requires { self.old.failed ≡ false }
         ensures { Pushed self.old self.new piece.now result.0 result.1 }
     {
-        self.push_from::<Brand>(piece, Blank::new(1))
+        match self.next_frame(piece) {
+            Some(frame) => self.take_frame(frame.head, frame.body),
+            None => self.push_from::<Brand>(piece, Blank::new(1)),
+        }
+    }
+
+    // The data frame that stands whole at the front of a piece, where it is the next item.
+    fn next_frame<'a>(&self, piece: &'a [u8]) -> Option<DataFrame<'a>>
+        ensures { IfSome result (λ frame. IsNext self.now frame.head frame.body.now piece.now) }
+    {
+        if self.after_login && self.len == 0 {
+            data_frame(piece)
+        } else {
+            None
+        }
+    }
+
+    // Takes the data frame that is the next item.
+    fn take_frame(&mut self, head: PacketHead, body: &[u8]) -> (usize, UpItem)
+        requires { length body.now ≤ 65535 }
+        ensures { (piece : List ℕ) → IsNext self.old head body.now piece → Pushed self.old self.new piece result.0 result.1 }
+    {
+        put_body(&mut self.last, body);
+        self.body_len = body.len();
+        (12 + body.len(), UpItem::Packet(head))
     }
 
     // `push_counted` with a count of its own.
