@@ -28,6 +28,7 @@ pub enum Cursor {
 }
 
 /// The first field of so many records, or of what follows the last.
+#[inline(always)]
 fn next_record(head: PacketHead, left: u8) -> Cursor
     ensures rows { rows_at result ≡ records_left head left }
     ensures turns { weight result ≡ 0 }
@@ -40,6 +41,7 @@ fn next_record(head: PacketHead, left: u8) -> Cursor
     }
 }
 
+#[inline(always)]
 fn after_codec_id(value: u64) -> Result<Cursor, FaultKind>
     requires { value < 256 }
     ensures follows { (field : List ℕ) → number field ≡ value → Follows (rows_at Cursor.Codec) field result }
@@ -51,6 +53,7 @@ fn after_codec_id(value: u64) -> Result<Cursor, FaultKind>
     }
 }
 
+#[inline(always)]
 fn after_count(codec: Codec, value: u64) -> Result<Cursor, FaultKind>
     requires { value < 256 }
     ensures follows { (field : List ℕ) → number field ≡ value → Follows (rows_at (Cursor.Count codec)) field result }
@@ -63,6 +66,7 @@ fn after_count(codec: Codec, value: u64) -> Result<Cursor, FaultKind>
     Ok(next_record(PacketHead { codec, count }, count))
 }
 
+#[inline(always)]
 fn after_last_count(head: PacketHead, value: u64) -> Result<Cursor, FaultKind>
     ensures follows { (field : List ℕ) → number field ≡ value → Follows (rows_at (Cursor.LastCount head)) field result }
     ensures turns { IfOk result (λ cursor. weight cursor ≡ 0) }
@@ -74,6 +78,7 @@ fn after_last_count(head: PacketHead, value: u64) -> Result<Cursor, FaultKind>
     }
 }
 
+#[inline(always)]
 fn after_field(head: PacketHead, left: u8, at: InRecord, value: u64) -> Result<Cursor, FaultKind>
     ensures follows { (field : List ℕ) → Some (length field) ≡ width_of (rows_at (Cursor.Record head left at)) → Reads field value → Follows (rows_at (Cursor.Record head left at)) field result }
     ensures turns { IfOk result (λ cursor. weight cursor + weight (Cursor.Record head left at) ≤ 1) }
@@ -87,6 +92,7 @@ fn after_field(head: PacketHead, left: u8, at: InRecord, value: u64) -> Result<C
 
 impl Cursor {
     /// The width of the next field, if one is left.
+    #[inline(always)]
     pub fn left(self) -> Left
         ensures { HasLeft (rows_at self) result }
     {
@@ -98,6 +104,7 @@ impl Cursor {
     }
 
     /// What stands after a field of this value, or the rule that the field breaks.
+    #[inline(always)]
     pub fn next(self, value: u64) -> Result<Cursor, FaultKind>
         requires { width_of (rows_at self) ≡ Some 1 → value < 256 }
         ensures follows { (field : List ℕ) → Some (length field) ≡ width_of (rows_at self) → Reads field value → Follows (rows_at self) field result }

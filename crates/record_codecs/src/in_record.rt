@@ -48,6 +48,7 @@ pub enum InRecord {
 impl RecordState {
     /// The first field of the parts that are left, if any are.
     #[tactic(auto, unfolding(record_layout::specs::RecordRows::parts_rows))]
+    #[inline(always)]
     fn next_part(self) -> Option<InRecord>
         ensures rows { rows_from result ≡ parts_left self }
         ensures turns { weight_from result ≡ 0 }
@@ -63,6 +64,7 @@ impl RecordState {
     }
 
     /// The next pair, or the next part.
+    #[inline(always)]
     fn next_pair(self, pairs: PairsLeft) -> Option<InRecord>
         ensures rows { rows_from result ≡ times pairs.left (pair_rows pairs.id pairs.value) (parts_left self) }
         ensures turns { weight_from result ≡ 0 }
@@ -81,6 +83,7 @@ impl RecordState {
     }
 
     /// The next triple, or the next part.
+    #[inline(always)]
     fn next_triple(self, triples: TriplesLeft) -> Option<InRecord>
         ensures rows { rows_from result ≡ times triples.left (triple_rows triples.id triples.length) (parts_left self) }
         ensures turns { weight_from result ≡ 0 }
@@ -99,6 +102,7 @@ impl RecordState {
     }
 
     /// The sum of the counts with one more, which is at most the total, and at the last count the total.
+    #[inline(always)]
     fn counted_with(self, count: u64) -> Option<u64>
         ensures { result ≡ counted_with (drop self.part (parts_of self.codec)) self.total (self.counted + count) }
     {
@@ -119,6 +123,7 @@ impl RecordState {
     }
 
     /// What stands after a part's first field.
+    #[inline(always)]
     fn after_part(self, part: Part, value: u64) -> Result<Option<InRecord>, FaultKind>
         ensures follows { (field : List ℕ) → Some (length field) ≡ width_of (rows_in (InRecord.Part self part)) → Reads field value → FollowsIn (rows_in (InRecord.Part self part)) field result }
         ensures turns { IfOk result (λ next. weight_from next ≡ 0) }
@@ -151,6 +156,7 @@ impl RecordState {
 }
 
 /// The width of a part's first field.
+#[inline(always)]
 fn first_width(part: Part) -> u64
     ensures { result ≡ first_width_of part }
 {
@@ -164,6 +170,7 @@ fn first_width(part: Part) -> u64
 impl InRecord {
     /// A record's first field, its time.
     #[tactic(auto, unfolding(record_layout::specs::RecordRows::parts_rows))]
+    #[inline(always)]
     pub fn first(codec: Codec) -> InRecord
         ensures rows { rows_in result ≡ lone_record codec }
         ensures turns { weight_in result ≡ 0 }
@@ -178,6 +185,7 @@ impl InRecord {
     }
 
     /// The width of the field.
+    #[inline(always)]
     pub fn width(self) -> u64
         ensures { width_of (rows_in self) ≡ Some result }
     {
@@ -192,6 +200,7 @@ impl InRecord {
     }
 
     /// What stands after a field of this value: the next field, the record's end, or the rule that the field breaks.
+    #[inline(always)]
     pub fn next(self, value: u64) -> Result<Option<InRecord>, FaultKind>
         ensures follows { (field : List ℕ) → Some (length field) ≡ width_of (rows_in self) → Reads field value → FollowsIn (rows_in self) field result }
         ensures turns { IfOk result (λ next. weight_from next + weight_in self ≤ 1) }

@@ -3,6 +3,7 @@ ghost use Rattle.std.specs.Prelude.{◌≡◌, ◌≤◌, ◌<◌, ◌^◌, leng
 ghost use Rattle.layout.specs.Fields.{number as number_of};
 
 /// The number that a field spells, the highest byte first, where the field is no longer than a number.
+#[inline(always)]
 pub fn number(field: &[u8]) -> u64
     ensures value { length field.now ≤ 8 → result ≡ number_of field.now }
     ensures small { length field.now ≤ 8 → result < 256 ^ length field.now }
