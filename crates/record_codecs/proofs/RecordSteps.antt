@@ -85,7 +85,7 @@ no_width (at.Text r t n) e = refl
 
 -- Bytes are one record where the record at their front ends with them.
 
-found_whole : (v : Verdict (Unit {0})) (n : ℕ) → Some n ≡ end_of v → v ≡ whole (tt {0}) n
+pub found_whole : (v : Verdict (Unit {0})) (n : ℕ) → Some n ≡ end_of v → v ≡ whole (tt {0}) n
 found_whole (whole u n) m e = let k : m ≡ n = cc in ap (λ j. whole (tt {0}) j) (sym k)
 found_whole short m e = absurd (cc)
 found_whole (fault kind place) m e = absurd (cc)

@@ -1,5 +1,6 @@
 pub mod BodyCursor
 pub mod Elements
+pub mod FrontRecords
 pub mod Machines
 pub mod RecordCursor
 pub mod Shown
