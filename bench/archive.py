@@ -6,27 +6,20 @@ Usage: bench/archive.py [PROGRAM]; PROGRAM is the built archive_bench, crates/ar
 its folder builds it). Wanted for a million records: under 10 s and 1 GB, opening under 5 s, and at most 2.3 times the time for
 twice the records.
 """
-import os, subprocess, sys
+from measure import best, program, times
 
-TOP = os.path.dirname(os.path.dirname(os.path.abspath(__file__)))
-PROGRAM = sys.argv[1] if len(sys.argv) > 1 else os.path.join(TOP, "crates/archive_bench/out/archive_bench")
+PROGRAM = program("archive_bench")
 DEVICES, PACKET = 1000, 40
 
 
 def spent(records, opens):
-    """User seconds and megabytes for so many records and openings."""
-    child = subprocess.Popen([PROGRAM], stdin=subprocess.PIPE, stdout=subprocess.PIPE)
-    child.stdin.write(f"{records // PACKET} {DEVICES} {opens}\n".encode())
-    child.stdin.close()
-    told = child.stdout.read().decode()
-    _, status, usage = os.wait4(child.pid, 0)
-    assert os.waitstatus_to_exitcode(status) == 0 and f"{records} records listed" in told, told
-    return usage.ru_utime + usage.ru_stime, usage.ru_maxrss / 1000
+    """One run for so many records and openings."""
+    took = best([PROGRAM], f"{records // PACKET} {DEVICES} {opens}\n", runs=1)
+    assert f"{records} records listed" in took.said, took
+    return took
 
 
-small, memory = spent(1_000_000, 0)
-large, _ = spent(2_000_000, 0)
-opened, opened_memory = spent(1_000_000, 1)
-print(f"1,000,000 records: {small:.1f} s, {memory:.0f} MB")
-print(f"opening them: {opened - small:.1f} s, {opened_memory:.0f} MB")
-print(f"twice the records take {large / small:.2f} times the time")
+small, large, opened = spent(1_000_000, 0), spent(2_000_000, 0), spent(1_000_000, 1)
+print(f"1,000,000 records: {small.busy:.1f} s, {small.memory:.0f} MB")
+print(f"opening them: {opened.busy - small.busy:.1f} s, {opened.memory:.0f} MB")
+print(f"twice the records take {times(large.busy, small.busy)} the time")

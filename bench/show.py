@@ -5,10 +5,11 @@ those of a plain Rust program that prints the same lines (bench/show_peer/main.r
 Usage: bench/show.py [PROGRAM]; PROGRAM is the built fmb_program, crates/fmb_program/out/fmb_program by default (`rt run` in its folder
 builds it). Wanted: at most twice the plain program's time, under 100 MB, and about twice the time for twice the bytes.
 """
-import os, shutil, subprocess, sys, tempfile
+import os, shutil, subprocess, tempfile
+from measure import TOP, best, program, times
 
-TOP = os.path.dirname(os.path.dirname(os.path.abspath(__file__)))
-PROGRAM = sys.argv[1] if len(sys.argv) > 1 else os.path.join(TOP, "crates/fmb_program/out/fmb_program")
+PROGRAM = program("fmb_program")
+RUNS = 5
 RECORDS = 200
 MOST = 2 ** 24
 
@@ -47,36 +48,22 @@ def capture(size):
         length += len(line)
 
 
-def run(command, out):
-    """The least user and system seconds of five runs, and the most memory in MB."""
-    best, memory = None, 0
-    for _ in range(5):
-        with open(out, "wb") as sink:
-            child = subprocess.Popen(command, stdout=sink)
-            _, status, usage = os.wait4(child.pid, 0)
-        assert os.waitstatus_to_exitcode(status) == 0, command
-        spent = usage.ru_utime + usage.ru_stime
-        best = spent if best is None else min(best, spent)
-        memory = max(memory, usage.ru_maxrss / 1024)
-    return best, memory
-
-
 with tempfile.TemporaryDirectory() as folder:
     def path(name):
         return os.path.join(folder, name)
 
-    times = []
+    seconds = []
     for size in (MOST // 2, MOST):
         text, lines = capture(size)
         with open(path("capture.fmb"), "w") as f:
             f.write(text)
-        spent, memory = run([PROGRAM, "show", path("capture.fmb")], path("shown"))
-        times.append(spent)
-        print(f"{len(text)} bytes, {lines} lines: {spent:.2f} s, {memory:.0f} MB, {os.path.getsize(path('shown'))} bytes printed")
-    print(f"twice the bytes take {times[1] / times[0]:.2f} times the time")
+        took = best([PROGRAM, "show", path("capture.fmb")], out=path("shown"), runs=RUNS)
+        seconds.append(took.busy)
+        print(f"{len(text)} bytes, {lines} lines: {took.busy:.2f} s, {took.memory:.0f} MB, {os.path.getsize(path('shown'))} bytes printed")
+    print(f"twice the bytes take {times(seconds[1], seconds[0])} the time")
     if shutil.which("rustc"):
         subprocess.run(["rustc", "-O", "-o", path("peer"), os.path.join(TOP, "bench/show_peer/main.rs")], check=True)
-        spent, _ = run([path("peer"), path("capture.fmb")], path("peer_shown"))
+        peer = best([path("peer"), path("capture.fmb")], out=path("peer_shown"), runs=RUNS).busy
         with open(path("shown"), "rb") as ours, open(path("peer_shown"), "rb") as theirs:
             same = ours.read() == theirs.read()
-        print(f"the plain program: {spent:.2f} s, {'the same bytes' if same else 'OTHER BYTES'}; ours takes {times[1] / spent:.2f} times as long")
+        print(f"the plain program: {peer:.2f} s, {'the same bytes' if same else 'OTHER BYTES'}; ours takes {times(seconds[1], peer)} as long")

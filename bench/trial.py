@@ -4,10 +4,10 @@
 Usage: bench/trial.py [PROGRAM]; PROGRAM is the built fmb, crates/fmb_program/out/fmb_program by default.
 Wanted: under 2 seconds and 400 MB for 2^24 bytes, and at most twice of both for twice the text.
 """
-import os, subprocess, sys, tempfile, time
+import os, tempfile
+from measure import best, program, run, times
 
-TOP = os.path.dirname(os.path.dirname(os.path.abspath(__file__)))
-PROGRAM = sys.argv[1] if len(sys.argv) > 1 else os.path.join(TOP, "crates/fmb_program/out/fmb_program")
+PROGRAM = program("fmb_program")
 IMEI = "356307042441013"
 
 
@@ -25,32 +25,20 @@ def script(size):
     return text + last
 
 
-def run(path):
-    begun = time.monotonic()
-    child = subprocess.Popen([PROGRAM, "trial", path], stdout=subprocess.DEVNULL)
-    _, status, usage = os.wait4(child.pid, 0)
-    return time.monotonic() - begun, usage.ru_maxrss / 1024, os.waitstatus_to_exitcode(status)
-
-
-def best(path):
-    runs = [run(path) for _ in range(3)]
-    assert all(r[2] == 0 for r in runs), runs
-    return min(r[0] for r in runs), min(r[1] for r in runs)
-
-
 with tempfile.TemporaryDirectory() as folder:
-    results = []
-    for power in (23, 24):
-        path = os.path.join(folder, f"{power}.fmb")
+    def written(name, text):
+        path = os.path.join(folder, name)
         with open(path, "w") as file:
-            file.write(script(2 ** power))
-        seconds, megabytes = best(path)
-        results.append((seconds, megabytes))
-        print(f"2^{power} bytes: {seconds:.2f} s, {megabytes:.0f} MB")
-    (s, m), (t, n) = results
-    print(f"twice the text: {t / s:.2f} times the time, {n / m:.2f} times the memory")
-    one_line = os.path.join(folder, "line.fmb")
-    with open(one_line, "w") as file:
-        file.write("x" * 2 ** 24)
-    seconds, megabytes, status = run(one_line)
-    print(f"one line of 2^24 bytes: {seconds:.2f} s, {megabytes:.0f} MB, status {status}")
+            file.write(text)
+        return path
+
+    def spent(power):
+        path = written(f"{power}.fmb", script(2 ** power))
+        took = best([PROGRAM, "trial", path], out=os.devnull)
+        print(f"2^{power} bytes: {took.elapsed:.2f} s, {took.memory:.0f} MB")
+        return took
+
+    once, twice = spent(23), spent(24)
+    print(f"twice the text: {times(twice.elapsed, once.elapsed)} the time, {times(twice.memory, once.memory)} the memory")
+    took = run([PROGRAM, "trial", written("line.fmb", "x" * 2 ** 24)], out=os.devnull)
+    print(f"one line of 2^24 bytes: {took.elapsed:.2f} s, {took.memory:.0f} MB, status {took.status}")

@@ -3,7 +3,9 @@ use Rattle.std.proofs.Common.{◌≡◌, ◌==◌, ◌<◌, ◌+◌, ◌++◌, �
 use Rattle.std.proofs.lemmas.Bool.{eqb-true}
 use Rattle.std.proofs.lemmas.List.{nil_from_length}
 use Rattle.std.proofs.lemmas.List.Elements.{All-more, All-pop}
+use Rattle.std.specs.Char.{is_ascii_hexdigit}
 use Rattle.std.specs.List.{AllPass}
+use Rattle.std.specs.Prelude.{◌||◌, ◌-◌, nat_le, is_some, if◌then◌else◌}
 use Rattle.std.specs.Result.{result_unwrap_or}
 use Rattle.hex.specs.Hex.{decode_of, is_hex_digit}
 use Rattle.hex.proofs.HexLemmas.{decode_of-digits, decode_of-ok}
@@ -62,6 +64,19 @@ parted_known line name digits word parts known = ap (parts_say line) (sym parts)
 pub parted_unknown : (line name digits : List ℕ) → ◌≡◌ {A = Option (List ℕ × List ℕ)} (Some (name, digits)) (cut_at 32 line) → None ≡ word_of name → line_says line ≡ Err UnknownWord
 unfolding line_says
 parted_unknown line name digits parts unknown = ap (parts_say line) (sym parts) ∙ ap (λ w. with_digits w (Some digits)) (sym unknown)
+
+-- std's test of a digit, and that of `hex`
+pub is_ascii_hexdigit_is : (c : ℕ) → is_ascii_hexdigit c ≡ is_hex_digit c
+is_ascii_hexdigit_is c =
+    go (nat_le 48 c && nat_le c 57) (nat_le 65 c && nat_le c 70) (nat_le 97 c && nat_le c 102)
+  where
+    go : (digit upper lower : Bool) → ((digit || upper) || lower) ≡ is_some (if upper then Some (c - 55) else if lower then Some (c - 87) else if digit then Some (c - 48) else None)
+    go true true lower = refl
+    go true false true = refl
+    go true false false = refl
+    go false true lower = refl
+    go false false true = refl
+    go false false false = refl
 
 -- one digit more
 pub digits_more : (text : List ℕ) (i : ℕ) (all digit : Bool) → i < length text → digit ≡ is_hex_digit (get_or text i 0) → (IsTrue all ↔ AllPass is_hex_digit (take i text))

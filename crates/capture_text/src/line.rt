@@ -49,6 +49,7 @@ impl<'a> CaptureLine<'a> {
         self.number
     }
 
+    /// What its bytes are.
     pub fn word(&self) -> CaptureWord
         ensures { result ≡ self.now.word }
     {
@@ -62,6 +63,7 @@ impl<'a> CaptureLine<'a> {
         self.digits.len() / 2
     }
 
+    /// Whether it has no bytes, as a line of a word and a space has.
     pub fn is_empty(&self) -> bool
         ensures { IsTrue result ↔ (self.now.bytes ≡ []) }
     {
@@ -124,13 +126,7 @@ fn are_digits(text: &[u8]) -> bool
 {
     let mut all = true;
     for byte in text {
-        all &= is_digit(*byte);
+        all &= byte.is_ascii_hexdigit();
     }
     all
-}
-
-fn is_digit(byte: u8) -> bool
-    ensures { result ≡ is_hex_digit byte }
-{
-    matches!(byte, b'0'..=b'9' | b'A'..=b'F' | b'a'..=b'f')
 }

@@ -1,13 +1,11 @@
 -- What was read of a source is its whole text, or too long for a script and a capture.
-use Rattle.std.proofs.Common.{true, [], Err, nat_lt, subst, ◌≡◌, ◌<◌, ◌≤◌, ◌+◌, ◌-◌, ◌^◌, ℕ, min, List, ◌++◌, Option, None, Some, length, take, drop, refl, sym, ap, ◌∙◌, inl, inr, arith, append_assoc, length-append, length-take, take-append-drop}
+use Rattle.std.proofs.Common.{[], subst, ◌≡◌, ◌<◌, ◌≤◌, ◌+◌, ◌-◌, ◌^◌, ℕ, min, List, ◌++◌, Option, None, Some, length, take, drop, refl, sym, ap, ◌∙◌, inl, inr, arith, append_assoc, length-append, length-take, take-append-drop}
 use Rattle.std.proofs.Math.Seq.{take-append_seam}
-use Rattle.std.proofs.lemmas.Bool.Decides.{nat_tests}
 use Rattle.std.proofs.lemmas.List.{length-take-le, take-take}
 use Rattle.std.specs.Prelude.{IfSome, ◌⊎◌}
 use Rattle.std.specs.Io.{StartsWith}
 use Rattle.std.specs.Io.KnownBytes.{Consumes, IsAtEnd}
-use Rattle.capture_text.specs.Capture.{capture_of}
-use Rattle.capture_text.specs.declared.fault.CaptureFault.TheVariants.{TextTooLong}
+use Rattle.capture_text.proofs.CaptureLemmas.{too_long as long_capture}
 use Rattle.fmb_run.specs.Text.{IsReadOf, IsTextOf, OfText}
 use Rattle.fmb_show.specs.Shown.{Print, capture_print, shown}
 use Rattle.trial_bench.specs.PlainScript.{script_of}
@@ -36,7 +34,6 @@ read_too_much (Some x) (Some y) (Some z) text piece count kept so_far last withi
     let more : 2 ^ 24 < length (text ++ take kept piece) = omega (arith, length-append text (take kept piece), length-take-le kept piece there) in
     inr (more, ap (take (length (text ++ take kept piece))) whole ∙ take-append_seam (text ++ take kept piece) rest)
 
--- a text that begins with one that is too long is too long
 -- the last read gave nothing, or more than there was room for
 pub read_enough : (a b d : Option (List ℕ)) (text piece : List ℕ) (count kept room : ℕ) → Consumes a b text → Consumes b d (take count piece)
     → (count ≡ 0 → 0 < length piece → IsAtEnd d) → 0 < length piece → count ≤ length piece → length text ≤ 2 ^ 24 → room ≡ 2 ^ 24 - length text → kept ≡ min count (room + 1)
@@ -48,6 +45,7 @@ read_enough a b d text piece count kept room so_far last end some there short ro
     let full : kept ≡ room + 1 = omega (arith, more.1) in
     read_too_much a b d text piece count kept so_far last (omega arith) (omega arith) (omega arith)
 
+-- a text that begins with one that is too long is too long
 too_long_along : (whole text : List ℕ) → 2 ^ 24 < length text → StartsWith whole text → 2 ^ 24 < length whole
 too_long_along whole text long starts = omega (arith, ap length starts, length-take (length text) whole)
 
@@ -56,11 +54,6 @@ pub same_script : (told : Option (List ℕ)) (text : List ℕ) → IsReadOf told
 same_script None text read = (text, tt, refl)
 same_script (Some whole) text (inl e) = (whole, refl, ap script_of (sym e))
 same_script (Some whole) text (inr p) = (whole, refl, too_long whole (too_long_along whole text p.0 p.1) ∙ sym (too_long text p.0))
-
--- a capture that is too long
-long_capture : (text : List ℕ) → 2 ^ 24 < length text → capture_of text ≡ Err (record { line = 0; fault = TextTooLong })
-unfolding capture_of
-long_capture text h = let e : nat_lt (2 ^ 24) (length text) ≡ true = grind (arith, nat_tests) in rw e refl
 
 -- the same is shown of the whole text of a source as of what was read of it
 pub same_shown : (told : Option (List ℕ)) (text : List ℕ) → IsReadOf told text → (whole : List ℕ) × IsTextOf told whole × (shown whole ≡ shown text)

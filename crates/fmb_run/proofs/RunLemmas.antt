@@ -93,6 +93,7 @@ module _ {Text Out : Type 0} where
           among = inr (inr (inl refl));
           played = λ s. elim s [ inl e ↦ absurd (omega (arith, e)) | inr e ↦ absurd (omega (arith, e)) ];
           reported = λ e. absurd (omega (arith, e));
+          sink_steady = λ e. absurd (omega (arith, e));
           cut_off = λ e. absurd (omega (arith, e));
           sink_cause = λ e. absurd (omega (arith, e));
           refused = λ e. absurd (omega (arith, e));
@@ -117,6 +118,7 @@ module _ {Text Out : Type 0} where
           among = inr (inr (inr (inr (inl refl))));
           played = λ s. elim s [ inl e ↦ absurd (omega (arith, e)) | inr e ↦ absurd (omega (arith, e)) ];
           reported = λ e. absurd (omega (arith, e));
+          sink_steady = λ e. absurd (omega (arith, e));
           cut_off = λ e. absurd (omega (arith, e));
           sink_cause = λ e. absurd (omega (arith, e));
           refused = λ e. absurd (omega (arith, e));

@@ -1,5 +1,5 @@
 -- What is written of a text where a sink may fail (this project's own).
-use Rattle.std.specs.Prelude.{ℕ, List, ◌++◌, take, Option, codes}
+use Rattle.std.specs.Prelude.{◌≡◌, ℕ, List, ◌++◌, take, Option, codes}
 use Rattle.std.specs.Io.KnownBytes.{Appends}
 use Rattle.avl_values.specs.Causes.{Rose}
 use Rattle.fmb_host.specs.Host.{HostView}
@@ -21,6 +21,10 @@ module _ {Text Out : Type 0} (written : Out → Option (List ℕ)) (failures : O
   -- a host's sink was given the front of a text
   abbrev pub PrintsFront : List ℕ → HostView Text Out → HostView Text Out → Type 0
   PrintsFront text before after = AppendsFront (written before.sink) (written after.sink) text
+
+  -- a host's sink has not failed
+  abbrev pub SinkSteady : HostView Text Out → HostView Text Out → Type 0
+  SinkSteady before after = failures after.sink ≡ failures before.sink
 
   -- a host's sink has failed
   abbrev pub SinkFailed : HostView Text Out → HostView Text Out → Type 0

@@ -1,7 +1,7 @@
 -- What a trial that was read from a host comes to, by its status (this project's own).
 use Rattle.std.specs.Prelude.{◌≡◌, ◌≢◌, ◌⊎◌, ◌+◌, ℕ, Bool, List, Option, Some, Ok, Err, codes}
 use Rattle.fmb_host.specs.Host.{HostView}
-use Rattle.fmb_run.specs.Printed.{Prints, PrintsFront, PrintsWhole, SinkFailed}
+use Rattle.fmb_run.specs.Printed.{Prints, PrintsFront, PrintsWhole, SinkFailed, SinkSteady}
 use Rattle.fmb_run.specs.Text.{IsOpened, IsReturned}
 use Rattle.fmb_text.specs.Refused.{refused_line}
 use Rattle.fmb_text.specs.Report.{report}
@@ -35,6 +35,7 @@ module _ {Text Out : Type 0} (written : Out → Option (List ℕ)) (failures : O
     pub among : (status ≡ 0) ⊎ (status ≡ 3) ⊎ (status ≡ 5) ⊎ (status ≡ 9)
     pub played : (status ≡ 0) ⊎ (status ≡ 5) → IsPlayed text after.kept
     pub reported : status ≡ 0 → IfKept after.kept (λ outcome. PrintsWhole written failures (report outcome brief) before after)
+    pub sink_steady : status ≡ 0 → SinkSteady written failures before after
     pub cut_off : status ≡ 5 → IfKept after.kept (λ outcome. PrintsFront written failures (report outcome brief) before after)
     pub sink_cause : status ≡ 5 → SinkFailed written failures before after
     pub refused : status ≡ 3 → IsRefused text (λ line. Prints written failures line before after)
@@ -48,6 +49,7 @@ module _ {Text Out : Type 0} (written : Out → Option (List ℕ)) (failures : O
       pub among : (status ≡ 0) ⊎ (status ≡ 3) ⊎ (status ≡ 4) ⊎ (status ≡ 5) ⊎ (status ≡ 7) ⊎ (status ≡ 9)
       pub played : (status ≡ 0) ⊎ (status ≡ 5) → (text : List ℕ) × IsOpened left name word text before after × IsPlayed text after.kept
       pub reported : status ≡ 0 → IfKept after.kept (λ outcome. PrintsWhole written failures (report outcome brief) before after)
+      pub sink_steady : status ≡ 0 → SinkSteady written failures before after
       pub cut_off : status ≡ 5 → IfKept after.kept (λ outcome. PrintsFront written failures (report outcome brief) before after)
       pub sink_cause : status ≡ 5 → SinkFailed written failures before after
       pub refused : status ≡ 3

@@ -1,5 +1,5 @@
 ghost use Rattle.std.specs.Prelude.{◌≡◌, ◌⊎◌, Some, codes};
-ghost use Rattle.fmb_run.specs.Printed.{Prints, PrintsFront, PrintsWhole, SinkFailed};
+ghost use Rattle.fmb_run.specs.Printed.{Prints, PrintsFront, PrintsWhole, SinkFailed, SinkSteady};
 ghost use Rattle.fmb_run.specs.Trial.{Judged};
 ghost use Rattle.fmb_text.specs.Refused.{refused_line};
 ghost use Rattle.fmb_text.specs.Report.{report};
@@ -44,6 +44,7 @@ fn finish<H: Host>(alloc: Global, host: &mut H, outcome: Outcome, brief: bool) -
     ensures kept { (result ≡ 0) ⊎ (result ≡ 5) → (H.view host.new).kept ≡ Some outcome }
     ensures kept_before { result ≡ 9 → (H.view host.new).kept ≡ (H.view host.old).kept }
     ensures reported { result ≡ 0 → PrintsWhole H.Out.written H.Out.failures (report outcome brief) (H.view host.old) (H.view host.new) }
+    ensures sink_steady { result ≡ 0 → SinkSteady H.Out.written H.Out.failures (H.view host.old) (H.view host.new) }
     ensures cut_off { result ≡ 5 → PrintsFront H.Out.written H.Out.failures (report outcome brief) (H.view host.old) (H.view host.new) }
     ensures sink_cause { result ≡ 5 → SinkFailed H.Out.written H.Out.failures (H.view host.old) (H.view host.new) }
     ensures no_memory { result ≡ 9 → Prints H.Out.written H.Out.failures (codes "no memory\n") (H.view host.old) (H.view host.new) }

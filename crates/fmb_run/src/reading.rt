@@ -5,9 +5,7 @@ ghost use Rattle.fmb_run.specs.Text.{IsReadOf};
 use avl_values::{Failed, NoMemory};
 use fmb_host::Source;
 use std::alloc::Global;
-
-/// The most bytes that a script may have.
-const MOST: usize = 16_777_216;
+use text_lines::LONGEST;
 
 /// How many bytes are asked for at a time.
 const PIECE: usize = 65_536;
@@ -20,7 +18,7 @@ pub(crate) enum Unread {
     NoMemory,
 }
 
-/// Reads a source to its end, or until there are more bytes than a script may have; then the first 2^24 + 1 are kept.
+/// Reads a source to its end, or until there are more bytes than a script or a capture may have; then the first 2^24 + 1 are kept.
 pub(crate) fn read_text<S: Source>(alloc: Global, source: &mut S) -> Result<Vec<u8>, Unread>
     ensures text { IfOk result (λ text. IsReadOf (S.left source.old) text.items) }
     ensures failed { result ≡ Err Unread.Failed → Rose (S.failures source.old) (S.failures source.new) }
@@ -47,7 +45,7 @@ fn read_pieces<S: Source>(
         let Ok(count) = source.read(piece) else {
             return Err(Unread::Failed);
         };
-        let room = MOST - text.len();
+        let room = LONGEST - text.len();
         let kept = count.min(room + 1);
         let Ok(()) = text.extend_from_slice(&piece[..kept]) else {
             return Err(Unread::NoMemory);

@@ -1,7 +1,7 @@
 ghost use Rattle.std.specs.Prelude.{◌≡◌, ◌≢◌, ◌⊎◌, ◌+◌, List, ℕ, IfOk, Err, None, codes, false, true, map, string_bytes};
 ghost use Rattle.fmb_host.specs.Host.{AreSmall, with_host_fault};
 ghost use Rattle.fmb_run.specs.Asked.{IfShow, IfTrial};
-ghost use Rattle.fmb_run.specs.Printed.{Prints, PrintsFront, PrintsWhole, SinkFailed, front_and_line};
+ghost use Rattle.fmb_run.specs.Printed.{Prints, PrintsFront, PrintsWhole, SinkFailed, SinkSteady, front_and_line};
 ghost use Rattle.fmb_run.specs.Text.{HasNext, IsReturned, OfOpened, OpensNothing, ReadsText};
 ghost use Rattle.fmb_run.specs.Trial.{IfKept, IsPlayed, IsRefused, RanTrial};
 ghost use Rattle.fmb_show.specs.Shown.{shown as shown_of};
@@ -75,6 +75,7 @@ fn show_file<H: Host>(alloc: Global, host: &mut H, name: &str) -> u8
     ensures among { (result ≡ 0) ⊎ (result ≡ 3) ⊎ (result ≡ 4) ⊎ (result ≡ 5) ⊎ (result ≡ 7) ⊎ (result ≡ 9) }
     ensures shown { result ≡ 0 → OfOpened H.Text.left H.Text.name name.now (H.view host.old) (H.view host.new) (λ text. ((shown_of text).faulty ≡ false)
         × PrintsWhole H.Out.written H.Out.failures (shown_of text).text (H.view host.old) (H.view host.new)) }
+    ensures sink_steady { result ≡ 0 → SinkSteady H.Out.written H.Out.failures (H.view host.old) (H.view host.new) }
     ensures faulty { result ≡ 3 → OfOpened H.Text.left H.Text.name name.now (H.view host.old) (H.view host.new) (λ text. ((shown_of text).faulty ≡ true)
         × Prints H.Out.written H.Out.failures (shown_of text).text (H.view host.old) (H.view host.new)) }
     ensures cut_off { result ≡ 5 → OfOpened H.Text.left H.Text.name name.now (H.view host.old) (H.view host.new) (λ text. ((shown_of text).faulty ≡ false)
@@ -121,6 +122,9 @@ pub fn run<H: Host>(alloc: Global, words: &[String], host: &mut H) -> u8
     ensures shown_cut_off { IfShow (words_of (map string_bytes words.now)) (λ file. result ≡ 5
         → OfOpened H.Text.left H.Text.name file (H.view host.old) (H.view host.new) (λ text. ((shown_of text).faulty ≡ false)
         × PrintsFront H.Out.written H.Out.failures (shown_of text).text (H.view host.old) (H.view host.new))) }
+
+    // 0 and 5 of both: the sink didn't fail, and it failed
+    ensures sink_steady { result ≡ 0 → SinkSteady H.Out.written H.Out.failures (H.view host.old) (H.view host.new) }
     ensures sink_cause { result ≡ 5 → SinkFailed H.Out.written H.Out.failures (H.view host.old) (H.view host.new) }
 
     // 2: exactly where the words ask for nothing, but that memory may run out while they are read

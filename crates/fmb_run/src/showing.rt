@@ -25,9 +25,10 @@ fn tell<K: Sink>(sink: &mut K, line: &[u8])
 pub fn run_show<S: Source, K: Sink>(alloc: Global, source: &mut S, sink: &mut K) -> u8
     ensures among { (result ≡ 0) ⊎ (result ≡ 3) ⊎ (result ≡ 4) ⊎ (result ≡ 5) ⊎ (result ≡ 9) }
 
-    // 0: the text has no fault, and all that is shown of it was written
+    // 0: the text has no fault, all that is shown of it was written, and the sink didn't fail
     ensures shown { result ≡ 0 → OfText (S.left source.old) (λ text. ((shown_of text).faulty ≡ false)
         × Appends (K.written sink.old) (K.written sink.new) (shown_of text).text) }
+    ensures sink_steady { result ≡ 0 → K.failures sink.new ≡ K.failures sink.old }
 
     // 3: the text has a first fault, whatever the sink does; the fault's line is the last that is shown
     ensures faulty { result ≡ 3 → OfText (S.left source.old) (λ text. ((shown_of text).faulty ≡ true)

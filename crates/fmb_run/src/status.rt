@@ -4,13 +4,13 @@ pub const DONE: u8 = 0;
 /// The words are none that the program knows.
 pub const REFUSED_WORDS: u8 = 2;
 
-/// The script has a first fault.
+/// The script or the capture has a first fault.
 pub const REFUSED_TEXT: u8 = 3;
 
 /// The text could not be read.
 pub const SOURCE_FAULT: u8 = 4;
 
-/// The report could not be written.
+/// The trial's report, or what is shown of the capture, could not be written whole.
 pub const SINK_FAULT: u8 = 5;
 
 /// The text could not be opened.

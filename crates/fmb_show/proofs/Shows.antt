@@ -13,9 +13,10 @@ use Rattle.fmb_show.specs.declared.capture.ShowEnd.TheVariants.{Done, Fault, Sin
 use Rattle.fmb_show.proofs.Printings.{line_printed}
 
 module _ (p : Print) (before after : Option (List ℕ)) (failures failures' : ℕ) where
-  pub showed_done : p.faulty ≡ false → Appends before after p.text → Showed p Done before after failures failures'
-  showed_done clean all = record {
+  pub showed_done : p.faulty ≡ false → Appends before after p.text → failures' ≡ failures → Showed p Done before after failures failures'
+  showed_done clean all steady = record {
     done = λ _. (clean, all);
+    sink_steady = λ _. steady;
     fault = λ e. absurd (let never : Done ≡ Fault = e in cc);
     sink_fault = λ e. absurd (let never : Done ≡ SinkFault = e in cc);
     sink_cause = λ e. absurd (let never : Done ≡ SinkFault = e in cc);
@@ -25,6 +26,7 @@ module _ (p : Print) (before after : Option (List ℕ)) (failures failures' : �
   pub showed_fault : p.faulty ≡ true → PrintsLine p.text before after failures failures' → Showed p Fault before after failures failures'
   showed_fault faulty line = record {
     done = λ e. absurd (let never : Fault ≡ Done = e in cc);
+    sink_steady = λ e. absurd (let never : Fault ≡ Done = e in cc);
     fault = λ _. (faulty, line);
     sink_fault = λ e. absurd (let never : Fault ≡ SinkFault = e in cc);
     sink_cause = λ e. absurd (let never : Fault ≡ SinkFault = e in cc);
@@ -34,6 +36,7 @@ module _ (p : Print) (before after : Option (List ℕ)) (failures failures' : �
   pub showed_sink_fault : p.faulty ≡ false → AppendsFront before after p.text → Rose failures failures' → Showed p SinkFault before after failures failures'
   showed_sink_fault clean front rose = record {
     done = λ e. absurd (let never : SinkFault ≡ Done = e in cc);
+    sink_steady = λ e. absurd (let never : SinkFault ≡ Done = e in cc);
     fault = λ e. absurd (let never : SinkFault ≡ Fault = e in cc);
     sink_fault = λ _. (clean, front);
     sink_cause = λ _. rose;
@@ -43,6 +46,7 @@ module _ (p : Print) (before after : Option (List ℕ)) (failures failures' : �
   pub showed_no_memory : (n : ℕ) → PrintsLine (take n p.text ++ codes "no memory\n") before after failures failures' → Showed p NoMemory before after failures failures'
   showed_no_memory n line = record {
     done = λ e. absurd (let never : NoMemory ≡ Done = e in cc);
+    sink_steady = λ e. absurd (let never : NoMemory ≡ Done = e in cc);
     fault = λ e. absurd (let never : NoMemory ≡ Fault = e in cc);
     sink_fault = λ e. absurd (let never : NoMemory ≡ SinkFault = e in cc);
     sink_cause = λ e. absurd (let never : NoMemory ≡ SinkFault = e in cc);
@@ -103,7 +107,7 @@ module _ (whole : Print) (printed : List ℕ) (before after : Option (List ℕ))
   pub all_done : (left : List LineValue) → GoesOn whole printed left → left ≡ [] → HasPrinted before after failures failures' false printed → Showed whole Done before after failures failures'
   all_done left g none has =
       let e = ends_clean whole printed left g none in
-      showed_done whole before after failures failures' e.1 (subst (Appends before after) (sym e.0) (has.whole refl))
+      showed_done whole before after failures failures' e.1 (subst (Appends before after) (sym e.0) (has.whole refl)) (has.steady refl)
 
   pub all_but_the_sink : (left : List LineValue) → GoesOn whole printed left → left ≡ [] → HasPrinted before after failures failures' true printed → Showed whole SinkFault before after failures failures'
   all_but_the_sink left g none has =

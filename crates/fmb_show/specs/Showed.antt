@@ -11,6 +11,7 @@ use Rattle.fmb_show.specs.declared.capture.ShowEnd.TheVariants.{Done, Fault, Sin
 -- decides before the sink.
 pub record Showed (print : Print) (end : ShowEnd) (before after : Option (List ℕ)) (failures failures' : ℕ) : Type 0 where
   pub done : end ≡ Done → (print.faulty ≡ false) × Appends before after print.text
+  pub sink_steady : end ≡ Done → failures' ≡ failures
   pub fault : end ≡ Fault → (print.faulty ≡ true) × PrintsLine print.text before after failures failures'
   pub sink_fault : end ≡ SinkFault → (print.faulty ≡ false) × AppendsFront before after print.text
   pub sink_cause : end ≡ SinkFault → Rose failures failures'

@@ -35,8 +35,8 @@ split_missing byte xs h =
 abbrev parts_at : List ℕ → Option ℕ → Option (List ℕ × List ℕ)
 parts_at xs place = option_map (λ i. (take i xs, drop (i + 1) xs)) place
 
--- a text that is cut is the parts before and behind the cut
-cut_some : (byte : ℕ) (xs line rest : List ℕ) → Some (line, rest) ≡ cut_at byte xs → slice_split (λ b. b == byte) xs ≡ line ∷ slice_split (λ b. b == byte) rest
+-- the parts of a text that is cut: what stands before the cut, and the parts behind it
+pub cut_some : (byte : ℕ) (xs line rest : List ℕ) → Some (line, rest) ≡ cut_at byte xs → slice_split (λ b. b == byte) xs ≡ line ∷ slice_split (λ b. b == byte) rest
 cut_some byte xs line rest h = go (position (λ b. b == byte) xs) refl h
   where
     go : (o : Option ℕ) → position (λ b. b == byte) xs ≡ o → Some (line, rest) ≡ parts_at xs o
@@ -46,7 +46,8 @@ cut_some byte xs line rest h = go (position (λ b. b == byte) xs) refl h
         let same = ap (λ o. unwrap_or o (line, rest)) h in
         split_found byte xs i e ∙ sym (ap (λ (p : List ℕ × List ℕ). p.0 ∷ slice_split (λ b. b == byte) p.1) same)
 
-cut_none : (byte : ℕ) (xs : List ℕ) → None ≡ cut_at byte xs → slice_split (λ b. b == byte) xs ≡ xs ∷ []
+-- and of one that isn't: the whole text
+pub cut_none : (byte : ℕ) (xs : List ℕ) → None ≡ cut_at byte xs → slice_split (λ b. b == byte) xs ≡ xs ∷ []
 cut_none byte xs h = go (position (λ b. b == byte) xs) refl h
   where
     go : (o : Option ℕ) → position (λ b. b == byte) xs ≡ o → None ≡ parts_at xs o → slice_split (λ b. b == byte) xs ≡ xs ∷ []

@@ -5,7 +5,7 @@ ghost use Rattle.text_lines.specs.Lines.{content_lines, is_skipped};
 use crate::cutting::first_line;
 use std::marker::Model;
 
-/// The most bytes of a text, 2^24.
+/// The most bytes of a script's or a capture's text, 2^24 (this project's own).
 pub const LONGEST: usize = 0x100_0000;
 
 /// A line that isn't skipped.
@@ -40,6 +40,7 @@ impl<'a> Model for ContentLines<'a> {
 }
 
 impl<'a> ContentLines<'a> {
+    /// The lines of a text of at most `LONGEST` bytes, from its beginning.
     pub fn new(text: &'a [u8]) -> Self
         requires { length text.now ≤ 2 ^ 24 }
         ensures { result ≡ content_lines text.entry.now }

@@ -1,6 +1,7 @@
 pub mod Acquiring
 pub mod Bodies
 pub mod Exchange
+pub mod FieldLemmas
 pub mod Histories
 pub mod Kept
 pub mod KeptAnswers
@@ -14,7 +15,6 @@ pub mod Once
 pub mod Plays
 pub mod Reading
 pub mod Records
-pub mod Splits
 pub mod Streams
 pub mod Talks
 pub mod Values

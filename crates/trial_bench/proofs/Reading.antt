@@ -1,7 +1,7 @@
 -- What may stand behind a script that was read, and what one line more makes of it.
-use Rattle.std.proofs.Common.{◌≡◌, ◌==◌, ℕ, ◌+◌, ◌^◌, ◌<◌, ◌≤◌, ◌&&◌, nat_lt, Bool, true, false, List, [], ◌∷◌, ◌++◌, map, length, Option, Some, None, Result, Ok, Err, refl, sym, ap, ◌∙◌, subst, arith}
+use Rattle.std.proofs.Common.{◌≡◌, ◌==◌, ℕ, ◌^◌, ◌<◌, ◌≤◌, ◌&&◌, nat_lt, Bool, true, false, List, [], ◌∷◌, ◌++◌, map, length, Option, Some, None, Ok, Err, refl, sym, ap, ◌∙◌, subst, arith}
 use Rattle.std.specs.Prelude.{is_none, is_some}
-use Rattle.std.specs.List.{list_all}
+use Rattle.std.specs.List.{fold, list_all}
 use Rattle.std.proofs.lemmas.List.{append-nil, length-map, map_push}
 use Rattle.std.proofs.lemmas.Bool.{eqb-true, false≢true}
 use Rattle.acquisition.specs.declared.fix.Fix.{Fix}
@@ -13,11 +13,10 @@ use Rattle.trial_model.specs.declared.script.ScriptLine.TheVariants as Entry
 use Rattle.trial_bench.specs.declared.fault.PlainKind.TheVariants.{NotBuilt, TextTooLong}
 use Rattle.trial_bench.specs.declared.fault.PlainFault.{PlainFault}
 use Rattle.trial_bench.specs.declared.fault.PlainFault.TheVariants as Fault
-use Rattle.trial_bench.specs.Lines.{is_skipped}
 use Rattle.trial_bench.specs.PlainLines.{plain_line}
-use Rattle.std.specs.Str.Lines.{lines}
+use Rattle.text_lines.specs.Lines.{content_lines}
 use Rattle.std.proofs.lemmas.Bool.Decides.{nat_tests}
-use Rattle.trial_bench.specs.PlainScript.{Refusal, Refuses, after_text_line, is_fix, may_stand, script_from, script_of, with_line}
+use Rattle.trial_bench.specs.PlainScript.{Refusal, Refuses, is_fix, may_stand, script_of, with_line, with_text_line}
 use Rattle.trial_bench.specs.ReadScript.{fix_part, plain_script_of, round_part, script_in}
 use Rattle.trial_bench.specs.declared.plain_script.NumberedFix.{NumberedFix}
 use Rattle.trial_bench.specs.declared.plain_script.NumberedRound.{NumberedRound}
@@ -128,39 +127,26 @@ after_round old new number imei piece may same rest h =
     stands number (plain_script_of old) (Entry.Round imei piece None None) may
     ∙ ap Ok (sym (subst (λ i. plain_script_of new ≡ plain_script_of old ++ (number, Entry.Round i piece None None) ∷ []) is added))
 
-pub not_said : (number : ℕ) (line : List ℕ) (script : Script) → is_skipped line ≡ false → plain_line line ≡ None → after_text_line number line script ≡ Err (record { line = number; kind = NotBuilt })
+pub not_said : (number : ℕ) (script : Script) (said : Option ScriptLine) → None ≡ said → with_line number script said ≡ Err (record { line = number; kind = NotBuilt })
 unfolding with_line
-not_said number line script h e = rw (h, e) refl
+not_said number script said none = ap (with_line number script) (sym none)
 
 -- lines behind a refusal change nothing
-stays : (number : ℕ) (rest : List (List ℕ)) (refusal : Refusal) → script_from number rest (Err refusal) ≡ Err refusal
-unfolding script_from
-stays number [] refusal = refl
-stays number (line ∷ rest) refusal = stays (number + 1) rest refusal
+stays : (lines : List (ℕ × List ℕ)) (refusal : Refusal) → fold with_text_line (Err refusal) lines ≡ Err refusal
+stays [] refusal = refl
+stays (line ∷ lines) refusal = stays lines refusal
 
-pub next_line : (number : ℕ) (line : List ℕ) (rest : List (List ℕ)) (script new : Script) → after_text_line number line script ≡ Ok new
-    → script_from number (line ∷ rest) (Ok script) ≡ script_from (number + 1) rest (Ok new)
-unfolding script_from
-next_line number line rest script new h = rw h refl
+-- so the first line that isn't built decides
+pub refused_line : (number : ℕ) (line : List ℕ) (lines rest : List (ℕ × List ℕ)) (script : Script) (fault : PlainFault) → lines ≡ (number, line) ∷ rest
+    → Refuses (with_line number script (plain_line line)) fault → Refuses (fold with_text_line (Ok script) lines) fault
+refused_line number line lines rest script (Fault.Line l kind) is refused =
+    ap (fold with_text_line (Ok script)) is ∙ ap (λ told. fold with_text_line told rest) refused ∙ stays rest (record { line = l; kind = kind })
+refused_line number line lines rest script Fault.NoMemory is refused = tt
 
-refused_line : (number : ℕ) (line : List ℕ) (rest : List (List ℕ)) (script : Script) (told : Result Script Refusal) (refusal : Refusal) → after_text_line number line script ≡ told → told ≡ Err refusal
-    → script_from number (line ∷ rest) (Ok script) ≡ Err refusal
-unfolding script_from
-refused_line number line rest script told refusal h e = rw (h, e) (stays (number + 1) rest refusal)
-
-pub refused_rest : (number : ℕ) (line : List ℕ) (rest : List (List ℕ)) (script : Script) (fault : PlainFault) → Refuses (after_text_line number line script) fault
-    → Refuses (script_from number (line ∷ rest) (Ok script)) fault
-refused_rest number line rest script (Fault.Line l kind) h = refused_line number line rest script (after_text_line number line script) (record { line = l; kind = kind }) refl h
-refused_rest number line rest script Fault.NoMemory h = tt
-
-pub whole_text : (text : List ℕ) → length text ≤ 2 ^ 24 → script_of text ≡ script_from 1 (lines text) (Ok [])
+pub whole_text : (text : List ℕ) → length text ≤ 2 ^ 24 → script_of text ≡ fold with_text_line (Ok []) (content_lines text)
 unfolding script_of
 whole_text text h = let e : nat_lt (2 ^ 24) (length text) ≡ false = grind (arith, nat_tests) in rw e refl
 
 pub too_long : (text : List ℕ) → 2 ^ 24 < length text → script_of text ≡ Err (record { line = 0; kind = TextTooLong })
 unfolding script_of
 too_long text h = let e : nat_lt (2 ^ 24) (length text) ≡ true = grind (arith, nat_tests) in rw e refl
-
-pub no_more : (number : ℕ) (told : Result Script Refusal) → script_from number (lines []) told ≡ told
-unfolding script_from
-no_more number told = refl

@@ -8,7 +8,7 @@ use Rattle.avl_values.specs.declared.codec.Codec.TheVariants.{C8}
 use Rattle.trial_model.specs.declared.order.Order.TheVariants.{Oldest}
 use Rattle.trial_model.specs.declared.script.ScriptLine.{ScriptLine}
 use Rattle.trial_model.specs.declared.script.ScriptLine.TheVariants as Line
-use Rattle.trial_bench.specs.Lines.{FiveTexts, TenTexts, fields_of, five_of, ten_of}
+use Rattle.trial_bench.specs.Fields.{FiveTexts, TenTexts, fields_of, five_of, ten_of}
 use Rattle.trial_bench.specs.Numbers.{imei_of, number_within, signed_within}
 
 infixl 10 ◌>>=◌

@@ -1,9 +1,9 @@
 -- Which texts are scripts so far, and which line of another text is the first that isn't built: the first line that isn't
 -- skipped is a `device` line; then come `fix` lines of its IMEI, at most as many as it has slots and at most 42; then at
 -- most one `round` line of its IMEI.
-use Rattle.std.specs.Prelude.{ℕ, ◌+◌, ◌^◌, ◌==◌, nat_lt, ◌&&◌, Bool, true, false, List, [], ◌∷◌, ◌++◌, length, Option, Some, None, Result, Ok, Err, ◌≡◌, codes, is_some, if◌then◌else◌}
-use Rattle.std.specs.List.{list_all}
-use Rattle.std.specs.Str.Lines.{lines}
+use Rattle.std.specs.Prelude.{ℕ, ◌^◌, ◌==◌, nat_lt, ◌&&◌, Bool, true, false, List, [], ◌∷◌, ◌++◌, length, Option, Some, None, Result, Ok, Err, ◌≡◌, codes, is_some, if◌then◌else◌}
+use Rattle.std.specs.List.{fold, list_all}
+use Rattle.text_lines.specs.Lines.{content_lines}
 use Rattle.trial_bench.specs.declared.fault.PlainFault.{PlainFault}
 use Rattle.trial_bench.specs.declared.fault.PlainFault.TheVariants as Fault
 use Rattle.trial_bench.specs.declared.fault.PlainKind.{PlainKind}
@@ -11,7 +11,6 @@ use Rattle.trial_bench.specs.declared.fault.PlainKind.TheVariants.{NotBuilt, Tex
 use Rattle.trial_model.specs.Script.{Device, Script, device_on}
 use Rattle.trial_model.specs.declared.script.ScriptLine.{ScriptLine}
 use Rattle.trial_model.specs.declared.script.ScriptLine.TheVariants as Line
-use Rattle.trial_bench.specs.Lines.{is_skipped}
 use Rattle.trial_bench.specs.PlainLines.{plain_line}
 
 -- Why a text is refused, and at which line, from 1. A text that is too long is refused as line 0.
@@ -65,24 +64,15 @@ unfoldable pub with_line : ℕ → Script → Option ScriptLine → Result Scrip
 with_line number script None = not_built number
 with_line number script (Some line) = if may_stand script line then Ok (script ++ (number, line) ∷ []) else not_built number
 
--- the script after a line of the text, by that before it
-abbrev pub after_text_line : ℕ → List ℕ → Script → Result Script Refusal
-after_text_line number line script = if is_skipped line then Ok script else with_line number script (plain_line line)
-
--- The first line that isn't built decides.
-abbrev pub after_told : ℕ → List ℕ → Result Script Refusal → Result Script Refusal
-after_told number line (Ok script) = after_text_line number line script
-after_told number line (Err refusal) = Err refusal
-
--- what lines of a text make of a script, of which the first has this number
-unfoldable pub script_from : ℕ → List (List ℕ) → Result Script Refusal → Result Script Refusal
-script_from number [] told = told
-script_from number (line ∷ lines) told = script_from (number + 1) lines (after_told number line told)
+-- the script with a line of the text more; the first line that isn't built decides
+abbrev pub with_text_line : Result Script Refusal → ℕ × List ℕ → Result Script Refusal
+with_text_line (Ok script) line = with_line line.0 script (plain_line line.1)
+with_text_line (Err refusal) line = Err refusal
 
 -- the script of a text, or its refusal
 unfoldable pub script_of : List ℕ → Result Script Refusal
 script_of text =
-    if nat_lt (2 ^ 24) (length text) then Err (record { line = 0; kind = TextTooLong }) else script_from 1 (lines text) (Ok [])
+    if nat_lt (2 ^ 24) (length text) then Err (record { line = 0; kind = TextTooLong }) else fold with_text_line (Ok []) (content_lines text)
 
 -- a refusal is that of the text; want of memory says nothing
 abbrev pub Refuses : Result Script Refusal → PlainFault → Type 0

@@ -1,7 +1,7 @@
 -- The fields of a line as the texts that they are.
-use Rattle.trial_bench.specs.Lines.{FiveTexts, TenTexts}
-use Rattle.trial_bench.specs.declared.text.FiveFields.{FiveFields}
-use Rattle.trial_bench.specs.declared.text.TenFields.{TenFields}
+use Rattle.trial_bench.specs.Fields.{FiveTexts, TenTexts}
+use Rattle.trial_bench.specs.declared.fields.FiveFields.{FiveFields}
+use Rattle.trial_bench.specs.declared.fields.TenFields.{TenFields}
 
 abbrev pub ten_texts : TenFields → TenTexts
 ten_texts f = record {

@@ -5,6 +5,7 @@
 
 mod connection;
 mod fault;
+mod fields;
 mod frame;
 mod number;
 mod plain_line;
@@ -12,7 +13,6 @@ mod plain_script;
 mod reader;
 mod record;
 mod server;
-mod text;
 mod tracker;
 mod trial;
 

@@ -3,8 +3,8 @@ ghost use Rattle.trial_bench.specs.PlainLines.{device_line, fix_line, is_plain_d
 ghost use Rattle.trial_bench.specs.ReadLine.{IsBare, says};
 ghost use Rattle.trial_bench.specs.Texts.{five_texts, ten_texts};
 
+use crate::fields::{FiveFields, TenFields, five_fields, ten_fields};
 use crate::number;
-use crate::text::{FiveFields, TenFields, five_fields, ten_fields};
 use acquisition::Fix;
 use arrayvec::ArrayVec;
 use avl_values::{Gps, Imei};

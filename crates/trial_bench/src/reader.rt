@@ -1,8 +1,8 @@
 ghost use Rattle.std.specs.Prelude.{◌≡◌, ◌<◌, ℕ, true, IfOk, IfErr, IsTrue, length, vec_len};
 ghost use Rattle.avl_values.specs.declared.codec.Codec.TheVariants.{C8};
 ghost use Rattle.trial_model.specs.declared.order.Order.TheVariants.{Oldest};
-ghost use Rattle.trial_bench.specs.Lines.{is_skipped};
-ghost use Rattle.trial_bench.specs.PlainScript.{Refuses, after_text_line, may_stand, script_of, with_line};
+ghost use Rattle.trial_bench.specs.PlainLines.{plain_line};
+ghost use Rattle.trial_bench.specs.PlainScript.{Refuses, may_stand, script_of, with_line};
 ghost use Rattle.trial_bench.specs.ReadLine.{IsBare, says};
 ghost use Rattle.trial_bench.specs.ReadScript.{plain_script_of, script_in};
 ghost use Rattle.acquisition.specs.declared.fix.Fix.{Fix as AnyFix};
@@ -11,13 +11,10 @@ ghost use Rattle.trial_model.specs.declared.script.ScriptLine.TheVariants as Ent
 use crate::fault::{PlainFault, PlainKind};
 use crate::plain_line::{PlainLine, plain_line};
 use crate::plain_script::{NumberedFix, NumberedRound, PlainScript};
-use crate::text::first_line;
 use acquisition::Fix;
 use avl_values::Imei;
 use std::alloc::Global;
-
-/// The most bytes of a text.
-const LONGEST: usize = 0x100_0000;
+use text_lines::{ContentLines, LONGEST};
 
 /// The most fixes, whose records fill one packet.
 const MOST_FIXES: usize = 42;
@@ -33,17 +30,9 @@ pub fn read_script(alloc: Global, text: &[u8]) -> Result<Option<PlainScript>, Pl
             kind: PlainKind::TextTooLong,
         });
     }
-    let mut script: Option<PlainScript> = None;
-    let mut number: u32 = 1;
-    let mut rest = text;
-    while !rest.is_empty() {
-        let (line, more) = first_line(rest);
-        script = match after_line(alloc, number, line, script) {
-            Ok(next) => next,
-            Err(fault) => return Err(fault),
-        };
-        number += 1;
-        rest = more;
+    let mut script = None;
+    for line in ContentLines::new(text) {
+        script = after_line(alloc, line.number, line.text, script)?;
     }
     Ok(script)
 }
@@ -55,24 +44,12 @@ fn after_line(
     line: &[u8],
     script: Option<PlainScript>,
 ) -> Result<Option<PlainScript>, PlainFault>
-    ensures script { IfOk result (λ s. after_text_line number line.now (script_in script) ≡ Ok (script_in s)) }
-    ensures refused { IfErr result (Refuses (after_text_line number line.now (script_in script))) }
+    ensures script { IfOk result (λ s. with_line number (script_in script) (plain_line line.now) ≡ Ok (script_in s)) }
+    ensures refused { IfErr result (Refuses (with_line number (script_in script) (plain_line line.now))) }
 {
-    if is_skipped(line) {
-        return Ok(script);
-    }
     match plain_line(line) {
         Some(said) => with_line(alloc, number, said, script),
         None => Err(not_built(number)),
-    }
-}
-
-fn is_skipped(line: &[u8]) -> bool
-    ensures { result ≡ is_skipped line.now }
-{
-    match line {
-        [] => true,
-        [first, ..] => *first == b'#',
     }
 }
 

@@ -1,35 +1,22 @@
-use Rattle.std.proofs.Common.{◌≡◌, ◌≤◌, ◌^◌, length, sym, subst, ◌∙◌, arith}
-use Rattle.std.specs.Str.Lines.{lines}
-use Rattle.std.proofs.lemmas.List.{nil_from_length}
-use Rattle.std.proofs.lemmas.Bool.Decides.{nat_tests}
-use Rattle.trial_bench.specs.PlainScript.{Refuses}
+use Rattle.std.proofs.Common.{[], Ok, sym, subst, ◌∙◌, ap, arith}
+use Rattle.std.proofs.lemmas.Result.{err_from_is_err_and}
+use Rattle.std.specs.List.{fold}
+use Rattle.trial_bench.specs.PlainScript.{Refuses, script_of, with_text_line}
 use Rattle.trial_bench.specs.ReadScript.{script_in}
-use Rattle.trial_bench.proofs.Reading.{next_line, no_more, refused_rest, too_long, whole_text}
+use Rattle.trial_bench.proofs.Reading.{refused_line, too_long, whole_text}
 use Rattle.trial_bench.proofs.reader.read_script.Goals as goal
 
 pub returns-then-text-gt-LONGEST-clause-refused : goal.returns-then-text-gt-LONGEST-clause-refused
 returns-then-text-gt-LONGEST-clause-refused c = too_long c.args.text.now (omega arith)
 
-pub loop-rest-init : goal.loop-rest-init
-loop-rest-init c =
-    let short : length c.args.text.now ≤ 2 ^ 24 = omega arith in
-    (omega arith, sym (whole_text c.args.text.now short))
+pub loop-line-init : goal.loop-line-init
+loop-line-init c = ap (fold with_text_line (Ok [])) (c.into_iter-line-iterator.ensures.into_iter_gives ∙ c.new-line-items.ensures) ∙ sym (whole_text c.args.text.now (omega arith))
 
-pub returns-in-Err-clause-refused : goal.returns-in-Err-clause-refused
-returns-in-Err-clause-refused c =
-    let h = rw c.first_line.ensures.line at c.loop-rest.invariant.1 in
-    let refused = refused_rest c.loop-rest.number c.first_line.result.0.now (lines c.first_line.result.1.now) (script_in c.loop-rest.script) c.in-Err.fault c.in-Err.ensures.refused in
-    subst (λ told. Refuses told c.in-Err.fault) h refused
-
-pub loop-rest-preserved : goal.loop-rest-preserved
-loop-rest-preserved c =
-    let h = rw c.first_line.ensures.line at c.loop-rest.invariant.1 in
-    let step = next_line c.loop-rest.number c.first_line.result.0.now (lines c.first_line.result.1.now) (script_in c.loop-rest.script) (script_in c.in-Ok.next) c.in-Ok.ensures.script in
-    (omega arith, sym step ∙ h)
-
-pub returns-clause-script : goal.returns-clause-script
-returns-clause-script c =
-    let empty : length c.loop-rest.rest.now ≡ 0 = grind (arith, nat_tests) in
-    let e = nil_from_length c.loop-rest.rest.now empty in
-    let h = rw e at c.loop-rest.invariant.1 in
-    sym h ∙ no_more _ _
+pub returns-in_err-script-clause-refused : goal.returns-in_err-script-clause-refused
+returns-in_err-script-clause-refused c =
+    let line = c.in-Some.line in
+    let fault = c.in_err-script.field-0.0 in
+    let first = refused_line line.number line.text.now c.loop-line.line-iterator c.next.new.self (script_in c.loop-line.script) fault c.in-Some.ensures.steps c.in_err-script.ensures.refused in
+    let refused : Refuses (script_of c.args.text.now) fault = subst (λ told. Refuses told fault) c.loop-line.invariant first in
+    let handed = err_from_is_err_and c.from_residual.result c.from_residual.ensures.1 in
+    rw handed.1 (subst (Refuses (script_of c.args.text.now)) (sym handed.2) refused)

@@ -1,15 +1,10 @@
--- Lines of a script's text, and fields of a line (this project's own).
-use Rattle.std.specs.Prelude.{ℕ, ◌==◌, Bool, true, List, [], ◌∷◌, Option, Some, None}
+-- The fields of a line of a script (this project's own).
+use Rattle.std.specs.Prelude.{ℕ, ◌==◌, List, [], ◌∷◌, Option, Some, None}
 use Rattle.std.specs.List.{slice_split}
 
 -- a line's fields, with one space between two
 abbrev pub fields_of : List ℕ → List (List ℕ)
 fields_of line = slice_split (λ b. b == 32) line
-
--- an empty line, and a line that begins with `#`, says nothing
-abbrev pub is_skipped : List ℕ → Bool
-is_skipped [] = true
-is_skipped (first ∷ rest) = first == 35
 
 -- The fields of a line that has ten.
 pub record TenTexts : Type 0 where

@@ -1,48 +1,8 @@
-ghost use Rattle.std.specs.Prelude.{◌≡◌, ◌==◌, ◌<◌, [], ◌∷◌, length, option_map, MatchOption};
-ghost use Rattle.std.specs.List.{position, slice_split};
-ghost use Rattle.std.specs.Str.Lines.{lines, strip_carriage_return};
-ghost use Rattle.trial_bench.specs.Lines.{fields_of, five_of, ten_of};
+ghost use Rattle.std.specs.Prelude.{◌≡◌, [], ◌∷◌, option_map, MatchOption};
+ghost use Rattle.trial_bench.specs.Fields.{fields_of, five_of, ten_of};
 ghost use Rattle.trial_bench.specs.Texts.{five_texts, ten_texts};
 
-/// The first line of a text that isn't empty, without its end (LF, or CR and LF), and the text behind it.
-pub fn first_line(text: &[u8]) -> (&[u8], &[u8])
-    requires { 0 < length text.now }
-    ensures line { lines text.now ≡ result.0.now ∷ lines result.1.now }
-    ensures shorter { length result.1.now < length text.now }
-{
-    match split_once(b'\n', text) {
-        Some((line, rest)) => (without_cr(line), rest),
-        None => (text, &text[text.len()..]),
-    }
-}
-
-fn without_cr(line: &[u8]) -> &[u8]
-    ensures { result.now ≡ strip_carriage_return line.now }
-{
-    if line.is_empty() || line[line.len() - 1] != b'\r' {
-        return line;
-    }
-    &line[..line.len() - 1]
-}
-
-// What stands before the first such byte and behind it; None where there is none.
-fn split_once(byte: u8, text: &[u8]) -> Option<(&[u8], &[u8])>
-    ensures parts { MatchOption result (slice_split (λ b. b == byte) text.now ≡ text.now ∷ [])
-        (λ p. slice_split (λ b. b == byte) text.now ≡ p.0.now ∷ slice_split (λ b. b == byte) p.1.now) }
-    ensures shorter { MatchOption result (Unit {0}) (λ p. length p.1.now < length text.now) }
-{
-    match place_of(byte, text) {
-        Some(place) => Some((&text[..place], &text[place + 1..])),
-        None => None,
-    }
-}
-
-fn place_of(byte: u8, text: &[u8]) -> Option<usize>
-    ensures place { result ≡ position (λ b. b == byte) text.now }
-    ensures within { MatchOption result (Unit {0}) (λ i. i < length text.now) }
-{
-    text.iter().position(|b| *b == byte)
-}
+use text_lines::split_once;
 
 /// The fields of a line that has ten.
 #[derive(Clone, Copy)]

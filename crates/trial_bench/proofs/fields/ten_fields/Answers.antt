@@ -1,6 +1,6 @@
 use Rattle.std.proofs.Common.{sym}
-use Rattle.trial_bench.proofs.Splits.{fields_some, ten_more}
-use Rattle.trial_bench.proofs.text.ten_fields.Goals as goal
+use Rattle.trial_bench.proofs.FieldLemmas.{fields_some, ten_more}
+use Rattle.trial_bench.proofs.fields.ten_fields.Goals as goal
 
 pub returns-in-Some : goal.returns-in-Some
 returns-in-Some c =
