@@ -2,10 +2,10 @@
 use Rattle.std.proofs.Common.{◌≡◌, ℕ, ◌+◌, ◌<◌, ◌≤◌, List, [], ◌∷◌, ◌++◌, length, take, drop, get_or, Some, refl, sym, ap, subst, ◌∙◌, arith, append_assoc, length-append}
 use Rattle.std.proofs.lemmas.List.{append-nil, take-append-drop}
 use Rattle.std.specs.List.{flat_map, AllByRecursion}
-use Rattle.avl_values.specs.Codec.{codec_of, id_of}
+use Rattle.avl_values.specs.Codec.{id_of}
 use Rattle.avl_values.specs.declared.codec.Codec.{Codec}
 use Rattle.layout.specs.Bytes.{AreBytes}
-use Rattle.layout.specs.Rows.{whole, judge, Fills}
+use Rattle.layout.specs.Rows.{whole, judge}
 use Rattle.layout.proofs.Numbers.{bytes-back, bytes-take}
 use Rattle.layout.proofs.RowLaws.{filled}
 use Rattle.record_layout.specs.Packet.{IsPacket}
