@@ -4,9 +4,9 @@ ghost use Rattle.record_layout.specs.PacketRows.{packet_verdict};
 ghost use Rattle.record_codecs.specs.Verdicts.{scan_verdict, read_verdict};
 
 use crate::cursor::{Cursor, Left};
-use crate::number::number;
 use crate::verdict::Scan;
 use avl_values::{Fault, FaultKind};
+use layout::number;
 use record_layout::PacketHead;
 
 /// Judges the first bytes of a body of `total` bytes, field by field. Each byte is read once.

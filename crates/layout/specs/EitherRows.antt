@@ -1,19 +1,8 @@
--- Rows of which either may stand, by their first field, and rows that say something else of their value (this project's own).
+-- Rows of which either may stand, by their first field (this project's own).
 use Rattle.std.specs.Prelude.{Option, Some, None}
 use Rattle.avl_values.specs.declared.fault.FaultKind.{FaultKind}
-use Rattle.layout.specs.Rows.{Rows, done, refuse, row, Verdict, whole, short, fault}
-use Rattle.layout.specs.Fields.{followed_by}
+use Rattle.layout.specs.Rows.{Rows, done, refuse, row}
 use Rattle.layout.specs.Next.{rule_of, rows_after}
-
--- the same rows, which say this of their value
-abbrev pub map_value : {V W : Type 0} → (V → W) → Rows V → Rows W
-map_value says rows = followed_by rows (λ v. done (says v))
-
--- the same verdict, which says this of the value
-abbrev pub map_verdict : {V W : Type 0} → (V → W) → Verdict V → Verdict W
-map_verdict says (whole v n) = whole (says v) n
-map_verdict says short = short
-map_verdict says (fault kind place) = fault kind place
 
 -- a field breaks the rule of either rows where it breaks both rules
 abbrev pub either_rule : Option FaultKind → Option FaultKind → Option FaultKind

@@ -1,6 +1,6 @@
 use Rattle.std.proofs.Common.{arith}
-use Rattle.record_codecs.proofs.Turns.{power_bound}
-use Rattle.record_codecs.proofs.number.number.Goals as goal
+use Rattle.layout.proofs.Numbers.{power_bound}
+use Rattle.layout.proofs.fields.number.Goals as goal
 
 pub overflow_mul-n : goal.overflow_mul-n
 overflow_mul-n c = omega (arith, power_bound c.loop-byte.byte-index (omega arith))
