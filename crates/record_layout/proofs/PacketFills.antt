@@ -126,7 +126,7 @@ id_by id false true c codec p q r e = let k : C8E ≡ codec = cc in let n : id �
 id_by id false false true codec p q r e = let k : C16 ≡ codec = cc in let n : id ≡ 0x10 = grind (arith, nat_tests) in n ∙ ap id_of k
 id_by id false false false codec p q r e = absurd (cc)
 
-id_from : (id : ℕ) (codec : Codec) → codec_of id ≡ Some codec → id ≡ id_of codec
+pub id_from : (id : ℕ) (codec : Codec) → codec_of id ≡ Some codec → id ≡ id_of codec
 id_from id codec e = id_by id (id == 0x08) (id == 0x8e) (id == 0x10) codec refl refl refl e
 
 after_take : (codec : Codec) (head : PacketHead) (bytes : List ℕ) → AreBytes bytes → Fills (after_codec codec) head bytes
