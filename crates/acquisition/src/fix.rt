@@ -6,6 +6,7 @@ use avl_values::Gps;
 pub struct Fix {
     /// Milliseconds since 1970 UTC. Times may go backwards.
     pub time: u64,
+    /// Where the vehicle is.
     pub gps: Gps,
     /// Metres. Distances come from it alone; it may go backwards.
     pub odometer: u64,

@@ -10,6 +10,7 @@ pub struct AvlRecord {
     pub time: u64,
     /// 0 low, 1 high, 2 panic. Every number of its type is accepted.
     pub priority: u8,
+    /// Where the vehicle was then.
     pub gps: Gps,
     /// The id of the I/O element that made the record, 0 where none did.
     pub event: u16,

@@ -4,8 +4,11 @@ ghost use Rattle.avl_values.specs.Codec.{codec_of, id_of};
 /// A codec of records (Teltonika, Data Sending Protocols: Codec 8, Codec 8 Extended, Codec 16).
 #[derive(Clone, Copy, Debug, PartialEq, Eq)]
 pub enum Codec {
+    /// Codec 8: ids and counts of one byte.
     C8,
+    /// Codec 8 Extended: ids and counts of two bytes, and elements of any length.
     C8E,
+    /// Codec 16: ids of two bytes, counts of one, and a generation type.
     C16,
 }
 

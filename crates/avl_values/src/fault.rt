@@ -95,6 +95,7 @@ impl FaultKind {
 /// The first fault of an item's bytes.
 #[derive(Clone, Copy, Debug, PartialEq, Eq)]
 pub struct Fault {
+    /// The rule that failed.
     pub kind: FaultKind,
     /// The first byte of the field whose rule failed, counted from 0 at the item's first byte.
     pub place: u32,

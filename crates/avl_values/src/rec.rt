@@ -7,7 +7,9 @@ use arrayvec::ArrayVec;
 /// A tracker's record: one codec, and at most 255 bytes. Its identity is the pair of both.
 #[derive(Debug, Drop)]
 pub struct Rec {
+    /// The codec that its bytes are spelled in.
     pub codec: Codec,
+    /// The bytes as they stand in a data body.
     pub bytes: ArrayVec<u8, 255>,
 }
 

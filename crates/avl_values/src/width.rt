@@ -4,9 +4,13 @@ ghost use Rattle.avl_values.specs.Width.{bytes_of, width_of_bytes};
 /// The width of a number on the wire: 1, 2, 4 or 8 bytes (Teltonika, Data Sending Protocols, I/O elements).
 #[derive(Clone, Copy, Debug, PartialEq, Eq)]
 pub enum Width {
+    /// One byte.
     W1,
+    /// Two bytes.
     W2,
+    /// Four bytes.
     W4,
+    /// Eight bytes.
     W8,
 }
 

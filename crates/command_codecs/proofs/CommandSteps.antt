@@ -1,6 +1,5 @@
 -- A command's cursor over bytes: each field on the way to the body's end, to its last byte so far or to a rule that fails.
-use Rattle.std.proofs.Common.{◌≡◌, ℕ, ◌+◌, ◌-◌, ◌*◌, ◌<◌, ◌≤◌, ◌^◌, List, [], length, take, drop, Ok, Err, refl, sym, ap, subst, ◌∙◌, arith, length-take, length-drop}
-use Rattle.std.proofs.Math.Nat.{pow-le-pow_right}
+use Rattle.std.proofs.Common.{◌≡◌, ℕ, ◌+◌, ◌-◌, ◌*◌, ◌<◌, ◌≤◌, List, [], length, take, drop, Ok, Err, refl, sym, ap, subst, ◌∙◌, arith, length-take, length-drop}
 use Rattle.std.proofs.Math.Seq.{take-length}
 use Rattle.avl_values.specs.declared.fault.FaultKind.{FaultKind}
 use Rattle.avl_values.specs.declared.fault.FaultKind.TheVariants.{Overrun, Excess}
@@ -21,9 +20,6 @@ use Rattle.command_codecs.specs.declared.cursor.Left.TheVariants as left
 use Rattle.command_codecs.specs.CommandCursor.{Follows, Reads, heard, left_of, rows_from, weight}
 use Rattle.command_codecs.specs.Hearing.{Says, nothing_said, with_text}
 use Rattle.command_codecs.proofs.CursorSteps.{width_is}
-
-pub power_bound : (k : ℕ) → k < 8 → 256 ^ k ≤ 256 ^ 7
-power_bound k h = pow-le-pow_right {n = 256} (omega arith) {i = k} {j = 7} (omega arith)
 
 -- what is left of the body is judged from here on, behind what was said
 pub record JudgedAt (way : Way) (total : ℕ) (have : List ℕ) (cursor : Cursor) (said : Said) (text : List ℕ) (place : ℕ) (rest : List ℕ) : Type 0 where

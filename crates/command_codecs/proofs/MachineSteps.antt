@@ -8,7 +8,7 @@ use Rattle.avl_values.specs.declared.fault.FaultKind.TheVariants.{Overrun, Exces
 use Rattle.layout.specs.Rows.{judge, body, short, fault, whole}
 use Rattle.layout.specs.Fields.{number}
 use Rattle.layout.specs.Next.{rule_of, rows_after}
-use Rattle.layout.proofs.Numbers.{number_push}
+use Rattle.layout.proofs.Numbers.{number_push, power_bound}
 use Rattle.layout.proofs.Stepping.{body_overrun, body_missing, body_on, body_fault, body_whole, body_excess}
 use Rattle.command_layout.specs.declared.way.Way.{Way}
 use Rattle.command_layout.specs.CommandRows.{command_verdict}
@@ -23,7 +23,7 @@ use Rattle.command_codecs.specs.CommandCursor.{Follows, Reads, heard, left_of, r
 use Rattle.command_codecs.specs.Hearing.{nothing_said}
 use Rattle.command_codecs.specs.Machines.{HasTaken, Answers, Enters}
 use Rattle.command_codecs.specs.Verdicts.{scan_verdict, without_value}
-use Rattle.command_codecs.proofs.CommandSteps.{at_end, first_verdict, power_bound}
+use Rattle.command_codecs.proofs.CommandSteps.{at_end, first_verdict}
 use Rattle.command_codecs.proofs.CursorSteps.{width_is}
 
 -- A fresh machine.

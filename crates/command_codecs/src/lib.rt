@@ -6,7 +6,6 @@ mod command;
 mod cursor;
 mod hearing;
 mod machine;
-mod number;
 mod row;
 mod scanning;
 mod verdict;

@@ -8,8 +8,11 @@ use command_layout::Way;
 /// The types that may stand in a command of a codec and way, and whether its content has a time and an IMEI.
 #[derive(Clone, Copy)]
 pub struct Row {
+    /// The types that may stand in it.
     pub kinds: &'static [u8],
+    /// Whether its content begins with a time.
     pub time: bool,
+    /// Whether an IMEI stands before its text.
     pub imei: bool,
 }
 

@@ -9,10 +9,10 @@ ghost use Rattle.command_codecs.specs.Views.{value_of};
 use crate::command::Command;
 use crate::cursor::{Cursor, Left};
 use crate::hearing::{Said, text_heard};
-use crate::number::number;
 use crate::verdict::CommandScan;
 use avl_values::{Fault, FaultKind};
 use command_layout::Way;
+use layout::number;
 
 /// What is known of a command's body from its first bytes, and what it says where it is whole.
 #[derive(Clone, Copy)]

@@ -8,6 +8,7 @@ use Rattle.layout.specs.Bytes.{AreBytes}
 use Rattle.layout.specs.Fields.{fault_unless}
 use Rattle.layout.specs.Rows.{Fills}
 use Rattle.layout.proofs.Numbers.{length_spell}
+use Rattle.layout.proofs.NumberFills.{number_fill, number_take, spell-one}
 use Rattle.record_layout.proofs.Fitting.{passed}
 use Rattle.command_layout.specs.declared.way.Way.{Way}
 use Rattle.command_layout.specs.CommandRows.{command_rows, content_rows, kind_rows, quantity_row, row_rule, size_rows, with_row}
@@ -16,7 +17,6 @@ use Rattle.command_layout.specs.Spelling as spelling
 use Rattle.command_layout.specs.Table.{CommandRow, IsOf, is_among, least_size, row_of}
 use Rattle.command_layout.specs.Values.{CommandValue}
 use Rattle.command_layout.proofs.ContentFills.{content_fill, content_size, content_take, quantity_fill, quantity_take}
-use Rattle.command_layout.proofs.NumberFills.{number_fill, number_take, spell-one}
 
 -- the type, the size and the content
 

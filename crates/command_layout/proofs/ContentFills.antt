@@ -8,13 +8,13 @@ use Rattle.layout.specs.Fields.{fault_unless}
 use Rattle.layout.specs.Rows.{Rows, done, Fills}
 use Rattle.layout.proofs.Filling.{done_filled, fills_done, fills_row, row_filled}
 use Rattle.layout.proofs.Numbers.{bytes-back, bytes-front, length_spell}
+use Rattle.layout.proofs.NumberFills.{number_fill, number_take}
 use Rattle.record_layout.proofs.Fitting.{exactly, is_exactly}
 use Rattle.command_layout.specs.CommandRows.{content_rows, imei_rows, quantity_row, text_rows, time_rows}
 use Rattle.command_layout.specs.Spelling.{ImeiFits, TimeFits, content_of, digit_pairs, imei_bytes, time_bytes}
 use Rattle.command_layout.specs.Table.{CommandRow, least_size}
 use Rattle.command_layout.specs.Values.{CommandValue}
 use Rattle.command_layout.proofs.ImeiFills.{imei_fill, imei_take}
-use Rattle.command_layout.proofs.NumberFills.{number_fill, number_take}
 
 -- a quantity
 

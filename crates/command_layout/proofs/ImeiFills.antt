@@ -8,10 +8,10 @@ use Rattle.avl_values.specs.declared.fault.FaultKind.TheVariants.{ImeiDigits}
 use Rattle.layout.specs.Bytes.{AreBytes}
 use Rattle.layout.specs.Fields.{fault_unless, number_row}
 use Rattle.layout.specs.Rows.{Rows, Fills}
+use Rattle.layout.proofs.NumberFills.{number_fill, number_take, spell-one}
 use Rattle.record_layout.proofs.Fitting.{passed}
 use Rattle.command_layout.specs.CommandRows.{digits_rule, imei_rows, pair_rows}
 use Rattle.command_layout.specs.Spelling.{ImeiFits, digit_pairs, imei_bytes, two_digits}
-use Rattle.command_layout.proofs.NumberFills.{number_fill, number_take, spell-one}
 
 -- two digits in a byte, both ways
 

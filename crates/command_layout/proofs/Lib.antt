@@ -3,4 +3,3 @@ pub mod CommandLaws
 pub mod ContentFills
 pub mod Examples
 pub mod ImeiFills
-pub mod NumberFills

@@ -7,6 +7,7 @@ use Rattle.layout.specs.Bytes.{AreBytes}
 use Rattle.layout.specs.Nested.{with_bytes}
 use Rattle.layout.specs.Rows.{Rows, Fills}
 use Rattle.layout.proofs.Numbers.{length_spell}
+use Rattle.layout.proofs.MappedLaws.{map_fill, map_take}
 use Rattle.record_layout.specs.PacketRows.{packet_rows}
 use Rattle.record_layout.specs.declared.head.PacketHead.{PacketHead}
 use Rattle.record_layout.proofs.Fitting.{exactly, is_exactly}
@@ -14,7 +15,6 @@ use Rattle.frame_layout.specs.Items.{IsBody, login_of}
 use Rattle.frame_layout.specs.Logins.{login_rows}
 use Rattle.frame_layout.proofs.LoginFills.{login_fill, login_take}
 use Rattle.frame_layout.proofs.SaidBytes.{said, saying}
-use Rattle.frame_layout.proofs.EitherFills.{map_fill, map_take}
 use Rattle.frame_layout.proofs.KindFills.{body_fills, filled_body}
 use Rattle.datagrams.specs.DatagramRows.{body_rows, datagram_rows, numbers_rows}
 use Rattle.datagrams.specs.Items.{IsDatagram, content_of, datagram_of}

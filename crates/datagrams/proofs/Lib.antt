@@ -2,7 +2,6 @@ pub mod DatagramFills
 pub mod DatagramLaws
 pub mod DatagramReads
 pub mod DigitReads
-pub mod FaultPlaces
 pub mod NumberReads
 pub mod NumbersFills
 pub mod ReadSteps

@@ -9,15 +9,16 @@ use Rattle.avl_values.specs.declared.fault.FaultKind.TheVariants.{DatagramLength
 use Rattle.layout.specs.Fields.{fault_unless, number, number_row}
 use Rattle.layout.specs.Nested.{and_then, moved, with_bytes}
 use Rattle.layout.specs.Rows.{Rows, Verdict, done, judge, body, short, whole, fault}
+use Rattle.layout.specs.MappedRows.{map_verdict}
+use Rattle.layout.proofs.FaultPlaces.{fault_place}
 use Rattle.layout.proofs.Judging.{judge_done, judge_refuse, within_refuse}
 use Rattle.layout.proofs.NestedLaws.{judge_moved, judge_within}
 use Rattle.layout.proofs.Numbers.{length_spell, number_spell}
 use Rattle.layout.proofs.Stepping.{body_fault}
+use Rattle.layout.proofs.MappedLaws.{map_body_judged}
 use Rattle.record_layout.specs.PacketRows.{packet_rows, packet_verdict}
 use Rattle.record_layout.specs.declared.head.PacketHead.{PacketHead}
 use Rattle.record_layout.proofs.Fitting.{exactly}
-use Rattle.frame_layout.specs.EitherRows.{map_verdict}
-use Rattle.frame_layout.proofs.EitherFills.{map_body_judged}
 use Rattle.datagrams.specs.DatagramRows.{any_number, body_rows, length_rows, numbers_rows}
 use Rattle.datagrams.specs.Reading.{left_verdict}
 use Rattle.datagrams.specs.Values.{DatagramValue}
@@ -106,3 +107,8 @@ pub body_broken : (says : List ℕ → DatagramValue) (place at : ℕ) (rest : L
 body_broken says place at rest kind e =
     let next : PacketHead → ℕ → Verdict (PacketHead × List ℕ) = λ v n. whole (v, rest) (place + length rest) in
     with_body says place rest ∙ ap (λ v. map_verdict (λ (b : PacketHead × List ℕ). says b.1) (and_then (moved place v) next)) e
+
+-- the place of a data body's fault isn't behind its bytes
+pub packet_fault_place : (total : ℕ) (bytes : List ℕ) (kind : FaultKind) (place : ℕ) → packet_verdict total bytes ≡ fault kind place → place ≤ length bytes
+unfolding packet_verdict
+packet_fault_place total bytes kind place e = omega (arith, fault_place (body total packet_rows) 0 bytes kind place e)

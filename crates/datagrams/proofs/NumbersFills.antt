@@ -8,7 +8,7 @@ use Rattle.layout.specs.Bytes.{AreBytes}
 use Rattle.layout.specs.Fields.{fault_unless, number_row}
 use Rattle.layout.specs.Rows.{Rows, refuse, Fills}
 use Rattle.layout.proofs.Filling.{no_refusal}
-use Rattle.frame_layout.proofs.NumberFills.{number_fill, number_take, spell-one}
+use Rattle.layout.proofs.NumberFills.{number_fill, number_take, spell-one}
 use Rattle.datagrams.specs.DatagramRows.{any_number, length_rows, numbers_rows}
 
 -- Bytes put together.

@@ -8,7 +8,7 @@ use Rattle.layout.specs.Fields.{number, number_row}
 use Rattle.layout.specs.Rows.{Rows, fault, judge, body}
 use Rattle.layout.proofs.Numbers.{length_spell, number_spell}
 use Rattle.layout.proofs.Stepping.{body_overrun, body_on, body_fault}
-use Rattle.frame_layout.proofs.NumberFills.{spell-one}
+use Rattle.layout.proofs.NumberFills.{spell-one}
 use Rattle.datagrams.specs.Reading.{left_verdict}
 
 front_take : (k : ℕ) (front more : List ℕ) → length front ≡ k → take k (front ++ more) ≡ front

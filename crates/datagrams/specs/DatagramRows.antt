@@ -6,8 +6,8 @@ use Rattle.avl_values.specs.declared.fault.FaultKind.TheVariants.{DatagramLength
 use Rattle.layout.specs.Rows.{Rows, done, refuse, Verdict, judge, body}
 use Rattle.layout.specs.Fields.{fault_unless, number_row}
 use Rattle.layout.specs.Nested.{with_bytes}
+use Rattle.layout.specs.MappedRows.{map_value}
 use Rattle.record_layout.specs.PacketRows.{packet_rows}
-use Rattle.frame_layout.specs.EitherRows.{map_value}
 use Rattle.frame_layout.specs.Logins.{login_rows}
 use Rattle.datagrams.specs.Values.{DatagramValue, ReplyValue}
 

@@ -23,7 +23,9 @@ const ZEROS: [u8; 261] = [0; 261];
 /// What a slot holds: a record, and the sequence under which it was stored.
 #[derive(Drop)]
 pub struct Held {
+    /// The sequence under which it was stored.
     pub seq: u64,
+    /// The record.
     pub rec: Rec,
 }
 

@@ -1,5 +1,5 @@
 -- A source and a sink in memory, as contracts see them (this project's own).
-use Rattle.std.specs.Prelude.{ℕ, ◌+◌, ◌-◌, ◌^◌, ◌≡◌, ◌≤◌, ◌⊎◌, min, List, [], All, Contains, Option, Some, None, length}
+use Rattle.std.specs.Prelude.{ℕ, ◌≡◌, ◌≤◌, ◌⊎◌, List, [], All, Contains, Option, Some, None, length}
 use Rattle.trial_model.specs.Results.{Results}
 use Rattle.fmb_host.specs.declared.host.Counts.{Counts}
 use Rattle.fmb_host.specs.Host.{HostView}
@@ -27,10 +27,6 @@ unread bytes failing = record { left = bytes; failing = failing; calls = 0; faul
 -- nothing was written yet
 abbrev pub unwritten : ℕ → List ℕ → SinkState
 unwritten room failing = record { written = []; room = room; failing = failing; calls = 0; faults = 0 }
-
--- one more, up to the type's end
-abbrev pub more_by_one : ℕ → ℕ
-more_by_one count = min (count + 1) (2 ^ 64 - 1)
 
 -- the next write fails, or finds no room
 abbrev pub IsRefused : SinkState → Type 0

@@ -1,5 +1,5 @@
 -- What is written of a text where a sink may fail (this project's own).
-use Rattle.std.specs.Prelude.{ℕ, ◌≤◌, ◌⊎◌, List, ◌++◌, take, Option}
+use Rattle.std.specs.Prelude.{ℕ, ◌≤◌, ◌⊎◌, List, take, Option}
 use Rattle.std.specs.Io.KnownBytes.{Appends}
 use Rattle.avl_values.specs.Causes.{Rose}
 

@@ -1,7 +1,8 @@
 ghost use Rattle.std.specs.Prelude.{◌≡◌, ◌↔◌, ◌⊎◌, ◌+◌, ◌<◌, ◌-◌, ◌^◌, ℕ, Some, None, Option, List, [], ◌∷◌, ◌++◌, refl, OnOk, OnErr, IfOk, IfSome, IsErr, IsSome, Contains, option_map};
 ghost use Rattle.std.specs.Borrow.{Lends, sem};
+ghost use Rattle.avl_values.specs.Causes.{more_by_one};
 ghost use Rattle.fmb_host.specs.Host.{HandsOut, HostView, TakesBack, with_host_fault};
-ghost use Rattle.fmb_host.specs.Memory.{MemoryHostState, host_view, more_by_one, new_host};
+ghost use Rattle.fmb_host.specs.Memory.{MemoryHostState, host_view, new_host};
 
 use crate::host::{Counts, Host};
 use crate::memory_sink::MemorySink;

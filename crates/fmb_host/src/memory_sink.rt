@@ -1,8 +1,8 @@
 ghost use Rattle.std.specs.Prelude.{◌≡◌, ◌↔◌, ℕ, ◌<◌, ◌≤◌, ◌-◌, List, min, Some, IfOk, IsErr, length};
 ghost use Rattle.std.specs.Io.{WritesAtMost};
 ghost use Rattle.std.specs.Io.KnownBytes.{WriteAppends};
-ghost use Rattle.avl_values.specs.Causes.{HasCause};
-ghost use Rattle.fmb_host.specs.Memory.{IsRefused, more_by_one, unwritten};
+ghost use Rattle.avl_values.specs.Causes.{HasCause, more_by_one};
+ghost use Rattle.fmb_host.specs.Memory.{IsRefused, unwritten};
 
 use crate::sink::Sink;
 use avl_values::{Failed, NoMemory};

@@ -1,8 +1,8 @@
 ghost use Rattle.std.specs.Prelude.{◌≡◌, ◌↔◌, ℕ, ◌<◌, ◌≤◌, List, min, Some, None, IfOk, IsErr, Contains, length, take, drop};
 ghost use Rattle.std.specs.Io.{ReadsAtMost};
 ghost use Rattle.std.specs.Io.KnownBytes.{ReadConsumes};
-ghost use Rattle.avl_values.specs.Causes.{HasCause};
-ghost use Rattle.fmb_host.specs.Memory.{more_by_one, unread};
+ghost use Rattle.avl_values.specs.Causes.{HasCause, more_by_one};
+ghost use Rattle.fmb_host.specs.Memory.{unread};
 
 use crate::source::Source;
 use avl_values::{Failed, NoMemory};

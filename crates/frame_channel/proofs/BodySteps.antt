@@ -8,12 +8,12 @@ use Rattle.layout.specs.Rows.{Rows, Verdict, body, done, fault, judge, short, wh
 use Rattle.layout.proofs.NestedLaws.{judge_moved, judge_within}
 use Rattle.layout.proofs.RowLaws.{filled, stays}
 use Rattle.layout.proofs.WithinLaws.{inside}
+use Rattle.layout.proofs.FaultPlaces.{fault_place}
 use Rattle.command_layout.specs.declared.way.Way.{Way}
 use Rattle.frame_layout.specs.FrameBodies.{body_kind_rows, body_verdict}
 use Rattle.frame_layout.specs.FrameRows.{body_rows, crc_rows}
 use Rattle.frame_layout.specs.declared.body_kind.BodyKind.{BodyKind}
 use Rattle.frame_channel.specs.Fields.{Leaves}
-use Rattle.frame_channel.proofs.FaultPlaces.{fault_place}
 
 -- what a frame says: the kind of its body, and the body
 abbrev pub Said : Type 0

@@ -5,6 +5,7 @@ use Rattle.std.proofs.lemmas.List.{append-nil}
 use Rattle.avl_values.specs.Codec.{codec_of}
 use Rattle.avl_values.specs.declared.codec.Codec.{Codec}
 use Rattle.layout.specs.Rows.{Verdict, whole, short, fault}
+use Rattle.layout.specs.MappedRows.{map_verdict}
 use Rattle.record_layout.specs.PacketRows.{packet_verdict}
 use Rattle.record_codecs.specs.Machines as record_machine
 use Rattle.record_codecs.specs.declared.machine.RecordMachine.{RecordMachine}
@@ -21,7 +22,6 @@ use Rattle.command_codecs.specs.declared.machine.CommandMachine.{CommandMachine}
 use Rattle.command_codecs.specs.declared.verdict.CommandScan.{CommandScan}
 use Rattle.command_codecs.specs.declared.verdict.CommandScan.TheVariants as command
 use Rattle.command_codecs.proofs.MachineSteps as command_steps
-use Rattle.frame_layout.specs.EitherRows.{map_verdict}
 use Rattle.frame_layout.specs.FrameBodies.{body_verdict}
 use Rattle.frame_layout.specs.declared.body_kind.BodyKind.TheVariants.{Packet, Command}
 use Rattle.frame_layout.proofs.KindVerdicts.{data_judged, no_bytes_yet, order_judged, response_judged, says_command}

@@ -8,15 +8,15 @@ use Rattle.avl_values.specs.declared.fault.FaultKind.{FaultKind}
 use Rattle.layout.specs.Fields.{number}
 use Rattle.layout.specs.Next.{width_of}
 use Rattle.layout.specs.Rows.{done, fault, judge, short, whole}
+use Rattle.layout.specs.MappedRows.{map_verdict}
 use Rattle.layout.proofs.Judging.{judge_done, judge_field}
 use Rattle.layout.proofs.RowLaws.{filled}
+use Rattle.layout.proofs.MappedLaws.{map_judged}
 use Rattle.command_layout.specs.declared.way.Way.TheVariants.{Down}
 use Rattle.frame_layout.specs.DownRows.{answer_rows, count_rows, down_rows, down_verdict, order_rows}
-use Rattle.frame_layout.specs.EitherRows.{map_verdict}
 use Rattle.frame_layout.specs.FrameBodies.{body_kind_rows, longest_body}
 use Rattle.frame_layout.specs.FrameRows.{length_rows}
 use Rattle.frame_layout.specs.Values.{DownValue, answer, count, order}
-use Rattle.frame_layout.proofs.EitherFills.{map_judged}
 use Rattle.frame_layout.proofs.Lengths.{short_down_few, starts_short_down}
 use Rattle.frame_layout.proofs.Places.{SaysDown, SaysOrder, says_down}
 use Rattle.frame_channel.specs.BodyIn.{body_in}

@@ -5,7 +5,6 @@ pub mod Digits
 pub mod DownPieces
 pub mod DownReads
 pub mod DownSteps
-pub mod FaultPlaces
 pub mod FieldSteps
 pub mod FrameSteps
 pub mod LentBodies

@@ -2,12 +2,12 @@
 use Rattle.std.proofs.Common.{◌≡◌, ℕ, ◌<◌, Bool, true, false, List, length, ap, ◌∙◌}
 use Rattle.avl_values.specs.declared.fault.FaultKind.{FaultKind}
 use Rattle.layout.specs.Rows.{fault, short, whole}
+use Rattle.layout.specs.MappedRows.{map_verdict}
+use Rattle.layout.proofs.MappedLaws.{map_judged}
 use Rattle.command_layout.specs.declared.way.Way.TheVariants.{Up}
-use Rattle.frame_layout.specs.EitherRows.{map_verdict}
 use Rattle.frame_layout.specs.Logins.{login_rows}
 use Rattle.frame_layout.specs.UpRows.{login_end, up_frame_rows, up_verdict}
 use Rattle.frame_layout.specs.Values.{UpValue, frame_value}
-use Rattle.frame_layout.proofs.EitherFills.{map_judged}
 use Rattle.frame_layout.proofs.Lengths.{short_up_few}
 use Rattle.frame_channel.specs.FrameCursors.{frame_verdict, way_rows}
 use Rattle.frame_channel.specs.LoginMachines as login_machine

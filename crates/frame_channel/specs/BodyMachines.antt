@@ -3,6 +3,7 @@ use Rattle.std.specs.Prelude.{◌≡◌, ℕ, ◌<◌, List, [], ◌++◌, Bool,
 use Rattle.std.specs.Option.{is_some}
 use Rattle.avl_values.specs.Codec.{codec_of}
 use Rattle.layout.specs.Rows.{Verdict, whole, short, fault}
+use Rattle.layout.specs.MappedRows.{map_verdict}
 use Rattle.record_layout.specs.PacketRows.{packet_verdict}
 use Rattle.record_codecs.specs.Machines as record_machine
 use Rattle.record_codecs.specs.declared.machine.RecordMachine.{RecordMachine}
@@ -15,7 +16,6 @@ use Rattle.command_codecs.specs.Machines as command_machine
 use Rattle.command_codecs.specs.declared.machine.CommandMachine.{CommandMachine}
 use Rattle.command_codecs.specs.declared.verdict.CommandScan.{CommandScan}
 use Rattle.command_codecs.specs.declared.verdict.CommandScan.TheVariants as command
-use Rattle.frame_layout.specs.EitherRows.{map_verdict}
 use Rattle.frame_layout.specs.FrameBodies.{body_verdict}
 use Rattle.frame_layout.specs.declared.body_kind.BodyKind.{BodyKind}
 use Rattle.frame_layout.specs.declared.body_kind.BodyKind.TheVariants.{Packet, Command}

@@ -8,6 +8,8 @@ use Rattle.layout.specs.Rows.{Rows, done, whole, Fills}
 use Rattle.layout.proofs.Filling.{fills_done, done_filled}
 use Rattle.layout.proofs.Numbers.{bytes-take}
 use Rattle.layout.proofs.RowLaws.{filled, is_whole, none_begins, stays}
+use Rattle.layout.proofs.MappedLaws.{map_fill, map_take}
+use Rattle.layout.proofs.NumberFills.{number_fill, number_take, spell-one}
 use Rattle.command_layout.specs.declared.way.Way.TheVariants.{Down}
 use Rattle.frame_layout.specs.DownRows.{answer_rows, count_rows, down_rows, order_rows}
 use Rattle.frame_layout.specs.FrameBodies.{body_kind_rows}
@@ -17,10 +19,8 @@ use Rattle.frame_layout.specs.Laws.{DownItemIsWhole, DownVerdictStays, NoDownIte
 use Rattle.frame_layout.specs.Values.{DownValue, answer, count, order}
 use Rattle.frame_layout.specs.declared.body_kind.BodyKind.{BodyKind}
 use Rattle.frame_layout.specs.declared.body_kind.BodyKind.TheVariants.{Packet, Command}
-use Rattle.frame_layout.proofs.EitherFills.{map_fill, map_take}
 use Rattle.frame_layout.proofs.FrameFills.{behind_zeros, length_fill, length_taken}
 use Rattle.frame_layout.proofs.KindFills.{kind_fill, kind_size, kind_taken}
-use Rattle.frame_layout.proofs.NumberFills.{number_fill, number_take, spell-one}
 
 answer_fills : (n : ℕ) (bytes : List ℕ) → IsAnswer n bytes → Fills answer_rows (answer n) bytes
 unfolding answer_rows

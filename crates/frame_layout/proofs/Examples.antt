@@ -5,10 +5,10 @@ use Rattle.crc_field.specs.Crc.{after_bits, crc_of}
 use Rattle.layout.specs.Fields.{followed_by}
 use Rattle.layout.specs.Nested.{with_bytes}
 use Rattle.layout.specs.Rows.{whole, short, fault, judge, within}
+use Rattle.layout.specs.EitherRows.{either_rows}
 use Rattle.record_layout.specs.PacketRows.{packet_rows}
 use Rattle.command_layout.specs.CommandRows.{command_rows, imei_rows, kind_rows, pair_rows, size_rows, text_rows, time_rows}
 use Rattle.frame_layout.specs.DownRows.{count_rows, down_verdict, order_rows}
-use Rattle.frame_layout.specs.EitherRows.{either_rows}
 use Rattle.frame_layout.specs.FrameRows.{body_rows, frame_rows, length_rows}
 use Rattle.frame_layout.specs.Items.{frame_of}
 use Rattle.frame_layout.specs.UpRows.{up_frame_rows, up_verdict}

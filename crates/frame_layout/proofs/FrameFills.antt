@@ -13,11 +13,11 @@ use Rattle.layout.specs.Rows.{Rows, done, Fills}
 use Rattle.layout.proofs.Filling.{fills_done, done_filled}
 use Rattle.layout.proofs.Numbers.{bytes-take, bytes-drop}
 use Rattle.layout.proofs.WithinLaws.{inside, around}
+use Rattle.layout.proofs.NumberFills.{number_fill, number_take}
 use Rattle.record_layout.proofs.Fitting.{exactly, is_exactly, passed}
 use Rattle.frame_layout.specs.FrameRows.{body_rows, crc_low_rows, crc_rows, frame_rows, length_rows}
 use Rattle.frame_layout.specs.Items.{frame_of}
 use Rattle.frame_layout.proofs.Checksum.{crc_small}
-use Rattle.frame_layout.proofs.NumberFills.{number_fill, number_take}
 use Rattle.frame_layout.proofs.SaidBytes.{said, saying}
 
 -- the checksum's field

@@ -10,7 +10,10 @@ use Rattle.layout.specs.Fields.{number}
 use Rattle.layout.specs.Next.{width_of, rule_of}
 use Rattle.layout.specs.Rows.{Fills}
 use Rattle.layout.proofs.Following.{follow_rule, follow_width}
+use Rattle.layout.proofs.EitherLaws.{either_take, first_fills, others_fill}
+use Rattle.layout.proofs.MappedLaws.{map_fill, map_take}
 use Rattle.layout.specs.Rows.{done}
+use Rattle.layout.specs.MappedRows.{map_value}
 use Rattle.record_layout.specs.declared.head.PacketHead.{PacketHead}
 use Rattle.record_layout.specs.Packet.{IsPacket}
 use Rattle.record_layout.specs.PacketRows.{codec_rule, packet_rows}
@@ -22,12 +25,10 @@ use Rattle.command_layout.specs.Spelling.{IsCommand}
 use Rattle.command_layout.specs.Table.{CommandRow, IsOf, row_of}
 use Rattle.command_layout.specs.Values.{CommandValue}
 use Rattle.command_layout.proofs.CommandFills.{command_fills, command_size, fills_command}
-use Rattle.frame_layout.specs.EitherRows.{map_value}
 use Rattle.frame_layout.specs.FrameBodies.{command_body_rows, body_kind_rows}
 use Rattle.frame_layout.specs.Items.{IsBody, IsFrameBody}
 use Rattle.frame_layout.specs.declared.body_kind.BodyKind.{BodyKind}
 use Rattle.frame_layout.specs.declared.body_kind.BodyKind.TheVariants.{Packet, Command}
-use Rattle.frame_layout.proofs.EitherFills.{either_take, first_fills, map_fill, map_take, others_fill}
 
 -- Data bodies.
 

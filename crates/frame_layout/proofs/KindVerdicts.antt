@@ -6,17 +6,18 @@ use Rattle.avl_values.specs.declared.fault.FaultKind.TheVariants.{UnknownCodec}
 use Rattle.layout.specs.Fields.{number}
 use Rattle.layout.specs.Next.{rule_of, width_of}
 use Rattle.layout.specs.Rows.{short}
+use Rattle.layout.specs.MappedRows.{map_value, map_verdict}
 use Rattle.layout.proofs.Stepping.{body_missing}
+use Rattle.layout.proofs.EitherLaws.{either_width, first_judged, others_judged}
+use Rattle.layout.proofs.MappedLaws.{map_body_judged}
 use Rattle.record_layout.specs.PacketRows.{codec_rule, packet_rows, packet_verdict}
 use Rattle.command_layout.specs.declared.way.Way.{Way}
 use Rattle.command_layout.specs.declared.way.Way.TheVariants.{Up, Down}
 use Rattle.command_layout.specs.CommandRows.{command_rows, command_verdict}
 use Rattle.command_layout.specs.Values.{CommandValue}
-use Rattle.frame_layout.specs.EitherRows.{map_value, map_verdict}
 use Rattle.frame_layout.specs.FrameBodies.{body_kind_rows, body_verdict, command_body_rows}
 use Rattle.frame_layout.specs.declared.body_kind.BodyKind.{BodyKind}
 use Rattle.frame_layout.specs.declared.body_kind.BodyKind.TheVariants.{Packet, Command}
-use Rattle.frame_layout.proofs.EitherFills.{either_width, first_judged, map_body_judged, others_judged}
 use Rattle.frame_layout.proofs.KindFills.{data_rule, data_width, order_width}
 
 -- a command's body

@@ -12,6 +12,7 @@ use Rattle.layout.specs.Nested.{and_then}
 use Rattle.layout.specs.Rows.{Rows, done, row, Verdict, whole, short, fault, judge, unless_fault, body}
 use Rattle.layout.proofs.Judging.{judge_done, judge_long, judge_short}
 use Rattle.layout.proofs.NestedLaws.{body_short, judge_within}
+use Rattle.layout.proofs.MappedLaws.{map_judged, map_short}
 use Rattle.record_layout.proofs.Fitting.{passed}
 use Rattle.command_layout.specs.declared.way.Way.TheVariants.{Up, Down}
 use Rattle.frame_layout.specs.DownRows.{answer_rows, count_rows, down_rows, order_rows}
@@ -21,7 +22,6 @@ use Rattle.frame_layout.specs.Logins.{digit_rows, login_rows}
 use Rattle.frame_layout.specs.UpRows.{login_end, up_frame_rows, up_rows}
 use Rattle.frame_layout.specs.Values.{DownValue, UpValue, answer, count, frame_value, login, order}
 use Rattle.frame_layout.specs.declared.body_kind.BodyKind.{BodyKind}
-use Rattle.frame_layout.proofs.EitherFills.{map_judged, map_short}
 
 -- Where rows are short, their first field lacks bytes, or the rows behind it are short.
 

@@ -1,13 +1,11 @@
 pub mod Checksum
 pub mod DownLaws
-pub mod EitherFills
 pub mod Examples
 pub mod FrameFills
 pub mod KindFills
 pub mod KindVerdicts
 pub mod Lengths
 pub mod LoginFills
-pub mod NumberFills
 pub mod Places
 pub mod SaidBytes
 pub mod UpLaws

@@ -10,12 +10,12 @@ use Rattle.layout.specs.Bytes.{AreBytes}
 use Rattle.layout.specs.Fields.{fault_unless}
 use Rattle.layout.specs.Rows.{Rows, Fills}
 use Rattle.layout.proofs.Filling.{fills_done, done_filled}
+use Rattle.layout.proofs.NumberFills.{number_fill, number_take, spell-one}
 use Rattle.record_layout.proofs.Fitting.{exactly, is_exactly, passed}
 use Rattle.frame_layout.specs.Items.{IsLogin, login_of}
 use Rattle.frame_layout.specs.Logins.{digit_rows, login_rows}
 use Rattle.frame_layout.specs.UpRows.{login_end}
 use Rattle.frame_layout.specs.Values.{UpValue, login}
-use Rattle.frame_layout.proofs.NumberFills.{number_fill, number_take, spell-one}
 
 -- What fills the rows of digits.
 

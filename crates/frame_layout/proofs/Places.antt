@@ -12,6 +12,7 @@ use Rattle.layout.specs.Nested.{with_bytes}
 use Rattle.layout.specs.Rows.{Rows, done, Fills}
 use Rattle.layout.proofs.Filling.{done_filled, row_filled}
 use Rattle.layout.proofs.WithinLaws.{inside}
+use Rattle.layout.proofs.MappedLaws.{map_take}
 use Rattle.command_layout.specs.declared.way.Way.TheVariants.{Up, Down}
 use Rattle.frame_layout.specs.DownRows.{answer_rows, count_rows, down_rows, order_rows}
 use Rattle.frame_layout.specs.FrameBodies.{body_kind_rows}
@@ -20,7 +21,6 @@ use Rattle.frame_layout.specs.Logins.{digit_rows, login_rows}
 use Rattle.frame_layout.specs.UpRows.{login_end, up_frame_rows, up_rows}
 use Rattle.frame_layout.specs.Values.{DownValue, UpValue, answer, count, frame_value, login, order}
 use Rattle.frame_layout.specs.declared.body_kind.BodyKind.{BodyKind}
-use Rattle.frame_layout.proofs.EitherFills.{map_take}
 use Rattle.frame_layout.proofs.SaidBytes.{said}
 
 pub record SaysLogin (v : UpValue) : Type 0 where

@@ -5,6 +5,7 @@ use Rattle.layout.specs.Bytes.{AreBytes}
 use Rattle.layout.specs.Rows.{whole, Fills}
 use Rattle.layout.proofs.Numbers.{bytes-take}
 use Rattle.layout.proofs.RowLaws.{filled, is_whole, none_begins, stays}
+use Rattle.layout.proofs.MappedLaws.{map_fill, map_take}
 use Rattle.record_layout.specs.Packet.{IsPacket}
 use Rattle.record_layout.specs.PacketRows.{packet_verdict}
 use Rattle.record_layout.specs.declared.head.PacketHead.{PacketHead}
@@ -18,7 +19,6 @@ use Rattle.frame_layout.specs.UpRows.{up_frame_rows, up_rows}
 use Rattle.frame_layout.specs.Values.{UpValue, frame_value, login, packet, response}
 use Rattle.frame_layout.specs.declared.body_kind.BodyKind.{BodyKind}
 use Rattle.frame_layout.specs.declared.body_kind.BodyKind.TheVariants.{Packet, Command}
-use Rattle.frame_layout.proofs.EitherFills.{map_fill, map_take}
 use Rattle.frame_layout.proofs.FrameFills.{frame_fill, frame_taken}
 use Rattle.frame_layout.proofs.KindFills.{kind_fill, kind_size, kind_taken}
 use Rattle.frame_layout.proofs.LoginFills.{login_fills, login_taken}

@@ -3,8 +3,8 @@
 use Rattle.std.specs.Prelude.{ℕ, ◌==◌, Bool, true, false, List, None, if◌then◌else◌}
 use Rattle.layout.specs.Rows.{Rows, done, Verdict, judge}
 use Rattle.layout.specs.Fields.{number_row}
+use Rattle.layout.specs.MappedRows.{map_value}
 use Rattle.command_layout.specs.declared.way.Way.TheVariants.{Down}
-use Rattle.frame_layout.specs.EitherRows.{map_value}
 use Rattle.frame_layout.specs.FrameBodies.{body_kind_rows, longest_body}
 use Rattle.frame_layout.specs.FrameRows.{length_rows}
 use Rattle.frame_layout.specs.Values.{DownValue, answer, count, order}

@@ -2,11 +2,12 @@
 -- the limits of lengths, are this project's own).
 use Rattle.std.specs.Prelude.{ℕ, List}
 use Rattle.layout.specs.Rows.{Rows, Verdict, judge, body}
+use Rattle.layout.specs.EitherRows.{either_rows}
+use Rattle.layout.specs.MappedRows.{map_value}
 use Rattle.record_layout.specs.PacketRows.{packet_rows}
 use Rattle.command_layout.specs.declared.way.Way.{Way}
 use Rattle.command_layout.specs.declared.way.Way.TheVariants.{Up, Down}
 use Rattle.command_layout.specs.CommandRows.{command_rows}
-use Rattle.frame_layout.specs.EitherRows.{either_rows, map_value}
 use Rattle.frame_layout.specs.declared.body_kind.BodyKind.{BodyKind}
 use Rattle.frame_layout.specs.declared.body_kind.BodyKind.TheVariants.{Packet, Command}
 

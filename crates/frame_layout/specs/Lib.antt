@@ -1,5 +1,4 @@
 pub mod DownRows
-pub mod EitherRows
 pub mod FrameBodies
 pub mod FrameRows
 pub mod Items

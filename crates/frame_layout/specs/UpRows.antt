@@ -2,8 +2,8 @@
 -- protocol sending over TCP" and Codecs 12 to 15). Places are counted from an item's first byte.
 use Rattle.std.specs.Prelude.{ℕ, Bool, true, false, List}
 use Rattle.layout.specs.Rows.{Rows, done, Verdict, judge}
+use Rattle.layout.specs.MappedRows.{map_value}
 use Rattle.command_layout.specs.declared.way.Way.TheVariants.{Up}
-use Rattle.frame_layout.specs.EitherRows.{map_value}
 use Rattle.frame_layout.specs.FrameBodies.{body_kind_rows, longest_body}
 use Rattle.frame_layout.specs.FrameRows.{frame_rows}
 use Rattle.frame_layout.specs.Logins.{login_rows}

@@ -38,9 +38,11 @@ impl Operand {
 /// An I/O element of a device, and when it makes a record.
 #[derive(Clone, Copy, Debug, PartialEq, Eq)]
 pub struct IoSetting {
+    /// The AVL id of the element.
     pub id: u16,
     /// Bytes of the value: 1, 2, 4 or 8. Any other number is refused where settings are checked.
     pub width: u8,
+    /// Which values make a record.
     pub operand: Operand,
     /// The least value in range.
     pub low: u64,

@@ -1,7 +1,11 @@
+pub mod EitherLaws
+pub mod FaultPlaces
 pub mod Filling
 pub mod Following
 pub mod Judging
+pub mod MappedLaws
 pub mod NestedLaws
+pub mod NumberFills
 pub mod Numbers
 pub mod RowLaws
 pub mod Stepping

@@ -1,9 +1,9 @@
 -- Numbers in bytes, the highest first, both ways.
-use Rattle.std.proofs.Common.{◌≡◌, ℕ, zero, suc, ◌+◌, ◌*◌, ◌/◌, ◌%◌, ◌^◌, ◌<◌, List, [], ◌∷◌, ◌++◌, length, get_or, take, drop, refl, sym, ap, ◌∙◌, arith, length-take}
+use Rattle.std.proofs.Common.{◌≡◌, ℕ, zero, suc, ◌+◌, ◌*◌, ◌/◌, ◌%◌, ◌^◌, ◌<◌, ◌≤◌, List, [], ◌∷◌, ◌++◌, length, get_or, take, drop, refl, sym, ap, ◌∙◌, arith, length-take}
 use Rattle.std.specs.Int.{bytes_high_first, byte_at}
 use Rattle.std.specs.List.{fold}
 use Rattle.std.proofs.Math.Seq.{take-length}
-use Rattle.std.proofs.Math.Nat.{div-div-eq-div-mul}
+use Rattle.std.proofs.Math.Nat.{div-div-eq-div-mul, pow-le-pow_right}
 use Rattle.std.proofs.lemmas.Nat.{div-mul-add, mod-mul-add}
 use Rattle.std.proofs.lemmas.List.{take_more}
 use Rattle.layout.specs.Fields.{number}
@@ -89,6 +89,10 @@ byte-last : (xs : List ℕ) (k : ℕ) → AreBytes xs → get_or xs k 0 < 256
 byte-last [] k p = omega arith
 byte-last (x ∷ xs) zero p = p.0
 byte-last (x ∷ xs) (suc k) p = byte-last xs k p.1
+
+-- what one more byte takes of a number of eight
+pub power_bound : (k : ℕ) → k < 8 → 256 ^ k ≤ 256 ^ 7
+power_bound k h = pow-le-pow_right {n = 256} (omega arith) {i = k} {j = 7} (omega arith)
 
 pub number_bound : (k : ℕ) (xs : List ℕ) → AreBytes xs → length xs ≡ k → number xs < 256 ^ k
 number_bound zero [] p h = omega arith

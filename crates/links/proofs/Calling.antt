@@ -3,9 +3,9 @@ use Rattle.std.proofs.Common.{◌≡◌, ℕ, ◌+◌, ◌≤◌, List, [], ◌+
 use Rattle.std.proofs.lemmas.List.{take-append-le, length-take-le, drop-drop}
 use Rattle.std.proofs.Math.Seq.{take-add, take-length}
 use Rattle.links.specs.Links.{Traffic, with_more}
-use Rattle.avl_values.specs.Causes.{HasCause}
+use Rattle.avl_values.specs.Causes.{HasCause, more_by_one}
 use Rattle.links.specs.Going.{same_traffic, goes_on_failed}
-use Rattle.links.specs.Memory.{MemoryLinkState, GoesOn, after_failure, after_read, more_by_one}
+use Rattle.links.specs.Memory.{MemoryLinkState, GoesOn, after_failure, after_read}
 
 -- with so many bytes taken from those that were left
 abbrev moved : ℕ → MemoryLinkState → MemoryLinkState

@@ -1,8 +1,9 @@
 -- How a link in memory goes on: no call, one call, and calls behind calls.
 use Rattle.std.proofs.Common.{◌≡◌, ℕ, ◌≤◌, List, [], ◌++◌, take, Some, refl, sym, ap, ◌∙◌, append_assoc, append-nil, arith}
 use Rattle.std.proofs.lemmas.List.{take-append-drop}
+use Rattle.avl_values.specs.Causes.{more_by_one}
 use Rattle.links.specs.Links.{Traffic, IsLater}
-use Rattle.links.specs.Memory.{MemoryLinkState, GoesOn, link_state, more_by_one, after_failure, after_read, after_write}
+use Rattle.links.specs.Memory.{MemoryLinkState, GoesOn, link_state, after_failure, after_read, after_write}
 
 pub goes_on_none : (link : MemoryLinkState) → GoesOn link link
 goes_on_none link = record {

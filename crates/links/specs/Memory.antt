@@ -1,5 +1,6 @@
 -- A link in memory, as contracts see it (this project's own).
-use Rattle.std.specs.Prelude.{◌≡◌, ℕ, ◌+◌, ◌-◌, ◌^◌, ◌<◌, ◌≤◌, ◌==◌, min, List, [], ◌++◌, length, take, drop, Contains, Some}
+use Rattle.std.specs.Prelude.{◌≡◌, ℕ, ◌+◌, ◌<◌, ◌≤◌, ◌==◌, min, List, [], ◌++◌, length, take, drop, Contains, Some}
+use Rattle.avl_values.specs.Causes.{more_by_one}
 use Rattle.links.specs.Links.{LinkState}
 
 -- the bytes that reads took and those that are left for them, the bytes that were written, how many bytes a read gives at
@@ -21,10 +22,6 @@ unused incoming piece room failing = record { taken = []; left = incoming; writt
 -- what it tells as a link
 abbrev pub link_state : MemoryLinkState → LinkState
 link_state link = record { told = Some record { taken = link.taken; written = link.written }; ended = length link.left == 0; faults = link.faults }
-
--- one more, up to the type's end
-abbrev pub more_by_one : ℕ → ℕ
-more_by_one count = min (count + 1) (2 ^ 64 - 1)
 
 -- the next call is one that was chosen to fail
 abbrev pub IsChosen : MemoryLinkState → Type 0

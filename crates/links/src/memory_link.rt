@@ -1,8 +1,8 @@
 ghost use Rattle.std.specs.Prelude.{◌≡◌, ◌↔◌, ◌⊎◌, ℕ, ◌+◌, ◌<◌, ◌≤◌, true, [], ◌++◌, min, length, take, drop, IfOk, OnErr, IsErr, IsTrue};
-ghost use Rattle.avl_values.specs.Causes.{HasCause};
+ghost use Rattle.avl_values.specs.Causes.{HasCause, more_by_one};
 ghost use Rattle.links.specs.Going.{goes_on_later, goes_on_none, goes_on_then};
 ghost use Rattle.links.specs.Links.{Moves, IsEmptyAtEnd};
-ghost use Rattle.links.specs.Memory.{GoesOn, IsChosen, PassesRoom, after_failure, after_read, after_write, given, link_state, more_by_one, unused};
+ghost use Rattle.links.specs.Memory.{GoesOn, IsChosen, PassesRoom, after_failure, after_read, after_write, given, link_state, unused};
 
 use crate::link::Link;
 use avl_values::{Failed, NoMemory};

@@ -1,5 +1,6 @@
 -- What contracts see of the media in memory, and what a power loss leaves of a bench (this project's own).
-use Rattle.std.specs.Prelude.{◌≡◌, ◌↔◌, ℕ, ◌+◌, ◌-◌, ◌^◌, ◌/◌, ◌≤◌, ◌==◌, min, if◌then◌else◌, List, [], ◌∷◌, length, replicate, take, Some, Contains}
+use Rattle.std.specs.Prelude.{◌≡◌, ◌↔◌, ℕ, ◌/◌, ◌≤◌, ◌==◌, if◌then◌else◌, List, [], ◌∷◌, length, replicate, take, Some, Contains}
+use Rattle.avl_values.specs.Causes.{more_by_one}
 use Rattle.medium.specs.CallsLeft.{CallsLeft, unknown, unlimited, after, exhausted}
 use Rattle.medium.specs.Buffer.{Held, IsTornImage}
 use Rattle.medium.specs.Content.{Content, written}
@@ -20,7 +21,7 @@ pub record MemoryView : Type 0 where
 -- What a counted call does to the count: it fails exactly where its number stands in the list.
 pub record IsNumbered (old new : MemoryView) (failed : Type 0) : Type 0 where
   pub exactly : failed ↔ Contains old.failing old.calls
-  pub next : new.calls ≡ min (old.calls + 1) (2 ^ 64 - 1)
+  pub next : new.calls ≡ more_by_one old.calls
   pub plan : new.failing ≡ old.failing
 
 -- With no number to fail at, no call will fail.

@@ -6,7 +6,9 @@ use arrayvec::ArrayVec;
 /// The places from the first one on, before the end.
 #[derive(Clone, Copy, Debug, Default, PartialEq, Eq)]
 pub struct Span {
+    /// The first place.
     pub first: usize,
+    /// The place behind the last one.
     pub end: usize,
 }
 

@@ -8,7 +8,7 @@ use Rattle.avl_values.specs.declared.fault.FaultKind.TheVariants.{Overrun, Exces
 use Rattle.layout.specs.Rows.{done, judge, body, short, fault, whole}
 use Rattle.layout.specs.Fields.{number}
 use Rattle.layout.specs.Next.{width_of, rule_of, rows_after}
-use Rattle.layout.proofs.Numbers.{number_push}
+use Rattle.layout.proofs.Numbers.{number_push, power_bound}
 use Rattle.layout.proofs.Stepping.{body_overrun, body_missing, body_on, body_fault, body_whole, body_excess}
 use Rattle.record_layout.specs.declared.head.PacketHead.{PacketHead}
 use Rattle.record_layout.specs.PacketRows.{packet_verdict}
@@ -22,7 +22,6 @@ use Rattle.record_codecs.specs.Machines.{HasTaken, Answers, Enters}
 use Rattle.record_codecs.specs.RecordCursor.{Reads}
 use Rattle.record_codecs.proofs.BodySteps.{judged_first}
 use Rattle.record_codecs.proofs.BodyTurns.{packet_width}
-use Rattle.record_codecs.proofs.Turns.{power_bound}
 
 -- A fresh machine.
 pub fresh : (m : RecordMachine) (total : ℕ) → 0 < total → m.total ≡ total → m.start ≡ 0 → m.taken ≡ 0 → m.cursor ≡ cursor.Codec → m.missing ≡ 1 → m.value ≡ 0 → HasTaken m total []

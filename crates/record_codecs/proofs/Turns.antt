@@ -1,6 +1,5 @@
 -- A record's cursor, field by field.
-use Rattle.std.proofs.Common.{◌≡◌, ℕ, ◌+◌, ◌≤◌, ◌<◌, ◌==◌, List, [], ◌∷◌, length, drop, Bool, true, false, not, nat_lt, Option, Some, None, Ok, Err, refl, sym, ap, subst, ◌∙◌, ◌^◌, arith}
-use Rattle.std.proofs.Math.Nat.{pow-le-pow_right}
+use Rattle.std.proofs.Common.{◌≡◌, ℕ, ◌+◌, ◌≤◌, ◌<◌, ◌==◌, List, [], ◌∷◌, length, drop, Bool, true, false, not, nat_lt, Option, Some, None, Ok, Err, refl, sym, ap, subst, ◌∙◌, arith}
 use Rattle.std.proofs.lemmas.Bool.{le-ltb}
 use Rattle.avl_values.specs.Width.{bytes_of}
 use Rattle.avl_values.specs.declared.fault.FaultKind.{FaultKind}
@@ -117,6 +116,3 @@ triples_fail r c i w p field value is width reads fails =
 pub counted_on : (ps : List Part) (total n : ℕ) → 0 < length ps → n ≤ total → Some n ≡ counted_with ps total n
 counted_on [] total n some h = absurd (omega arith)
 counted_on (p ∷ ps) total n some h = ap (λ b. some_unless (fault_unless (not b) TotalMismatch) n) (sym (le-ltb total n h))
-
-pub power_bound : (k : ℕ) → k < 8 → 256 ^ k ≤ 256 ^ 7
-power_bound k h = pow-le-pow_right {n = 256} (omega arith) {i = k} {j = 7} (omega arith)

@@ -7,8 +7,8 @@ ghost use Rattle.layout.specs.Fields.{number as number_of};
 ghost use Rattle.record_codecs.specs.Elements.{id_width_of, count_width_of, all_widths, groups_in, behind_groups, nx_of};
 ghost use Rattle.record_codecs.specs.Views.{ios_left, nx_left};
 
-use crate::number::number;
 use avl_values::{Codec, Io, Width};
+use layout::number;
 
 /// The width of an I/O element's id, and of an event's.
 pub fn id_width(codec: Codec) -> Width

@@ -7,7 +7,6 @@ mod cursor;
 mod elements;
 mod in_record;
 mod machine;
-mod number;
 mod reading;
 mod record;
 mod record_iter;

@@ -4,8 +4,8 @@ ghost use Rattle.record_layout.specs.RecordsOf.{first_record};
 ghost use Rattle.record_codecs.specs.SomeRecord.{IsSomeRecord};
 
 use crate::in_record::InRecord;
-use crate::number::number;
 use avl_values::Codec;
+use layout::number;
 
 /// How many of these bytes are the record at their front; None where no record stands there whole.
 pub fn front_record(codec: Codec, bytes: &[u8]) -> Option<usize>

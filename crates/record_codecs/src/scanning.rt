@@ -6,10 +6,10 @@ ghost use Rattle.record_codecs.specs.FrontRecords.{BeginWithRecords};
 ghost use Rattle.record_codecs.specs.Verdicts.{scan_verdict, read_verdict};
 
 use crate::cursor::{Cursor, Left};
-use crate::number::number;
 use crate::record::front_record;
 use crate::verdict::Scan;
 use avl_values::{Codec, Fault, FaultKind};
+use layout::number;
 use record_layout::PacketHead;
 
 /// Judges the first bytes of a body of `total` bytes, field by field. Each byte is read once.

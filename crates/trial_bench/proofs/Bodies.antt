@@ -20,7 +20,8 @@ use Rattle.record_layout.specs.Packet.{IsPacket, packet_bytes}
 use Rattle.record_layout.specs.PacketRows.{packet_verdict}
 use Rattle.record_layout.specs.SomeRecord.{IsSomeRecord}
 use Rattle.record_layout.proofs.ReadLaws.{packet_whole_verdict}
-use Rattle.trial_model.specs.Frames.{body_at, frame_of, has_frame, is_packet, is_whole}
+use Rattle.frame_layout.specs.Items.{frame_of}
+use Rattle.trial_model.specs.Frames.{body_at, has_frame, is_packet, is_whole}
 use Rattle.trial_bench.specs.PlainFrame.{ArePlain, IsFrame, body_of, bytes_of_each, records_with}
 
 -- plain records, one list behind the other

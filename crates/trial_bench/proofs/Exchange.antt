@@ -3,8 +3,9 @@ use Rattle.std.proofs.Common.{◌≡◌, ℕ, ◌≤◌, ◌<◌, nat_le, true, 
 use Rattle.std.specs.Int.{to_be_bytes, w32}
 use Rattle.std.proofs.lemmas.Bool.Decides.{nat_tests}
 use Rattle.avl_values.specs.Record.{Record}
+use Rattle.frame_layout.specs.Items.{frame_of, login_of}
 use Rattle.trial_model.specs.Delivery.{delivered_of, heard_bytes, heard_of}
-use Rattle.trial_model.specs.Frames.{Frame, Stream, frame_of, frames_of, login_of, login_size, stream_of}
+use Rattle.trial_model.specs.Frames.{Frame, Stream, frames_of, login_size, stream_of}
 use Rattle.trial_model.specs.declared.outcome.ConnectionOutcome.{ConnectionOutcome}
 use Rattle.trial_model.specs.declared.outcome.DeviceEnd.TheVariants as Device
 use Rattle.trial_model.specs.declared.outcome.ServerEnd.TheVariants as Server

@@ -11,7 +11,8 @@ use Rattle.record_layout.specs.PacketRows.{packet_rows, packet_verdict}
 use Rattle.record_layout.specs.RecordRows.{parts_rows}
 use Rattle.record_layout.specs.RecordsOf.{records_of}
 use Rattle.record_layout.proofs.ReadLaws.{records_read}
-use Rattle.trial_model.specs.Frames.{Stream, body_at, frame_of, frames_from, has_frame, login_of, login_size, stream_of}
+use Rattle.frame_layout.specs.Items.{frame_of, login_of}
+use Rattle.trial_model.specs.Frames.{Stream, body_at, frames_from, has_frame, login_size, stream_of}
 use Rattle.trial_bench.specs.PlainConnection.{up_of}
 use Rattle.trial_bench.specs.PlainFrame.{ArePlain, body_of, bytes_of_each}
 use Rattle.trial_bench.proofs.Bodies.{accepted, body_small, frame_body, is_frame, same_records, same_verdict}

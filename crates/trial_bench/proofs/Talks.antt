@@ -3,7 +3,7 @@ use Rattle.std.proofs.Common.{◌≡◌, ℕ, ◌<◌, ◌≤◌, List, [], ◌�
 use Rattle.std.proofs.lemmas.List.{length-map}
 use Rattle.avl_values.specs.declared.codec.Codec.{Codec}
 use Rattle.avl_values.specs.declared.codec.Codec.TheVariants.{C8}
-use Rattle.trial_model.specs.Frames.{frame_of}
+use Rattle.frame_layout.specs.Items.{frame_of}
 use Rattle.trial_model.specs.RecordLists.{add_once}
 use Rattle.trial_bench.specs.PlainFrame.{ArePlain, IsFrame, body_of, bytes_of_each, records_with}
 use Rattle.trial_bench.proofs.Bodies.{is_frame, same_records}

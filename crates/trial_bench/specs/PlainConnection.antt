@@ -3,7 +3,7 @@
 use Rattle.std.specs.Prelude.{ℕ, List, [], ◌∷◌, ◌++◌, length}
 use Rattle.std.specs.Int.{to_be_bytes, w32}
 use Rattle.avl_values.specs.Record.{Record}
-use Rattle.trial_model.specs.Frames.{frame_of, login_of}
+use Rattle.frame_layout.specs.Items.{frame_of, login_of}
 use Rattle.trial_model.specs.declared.outcome.ConnectionOutcome.{ConnectionOutcome}
 use Rattle.trial_model.specs.declared.outcome.DeviceEnd.TheVariants as Device
 use Rattle.trial_model.specs.declared.outcome.ServerEnd.TheVariants as Server

@@ -5,7 +5,7 @@ use Rattle.avl_values.specs.declared.codec.Codec.{Codec}
 use Rattle.avl_values.specs.declared.codec.Codec.TheVariants.{C8}
 use Rattle.record_layout.specs.Packet.{IsPacket, packet_bytes}
 use Rattle.record_layout.specs.SomeRecord.{IsSomeRecord}
-use Rattle.trial_model.specs.Frames.{frame_of}
+use Rattle.frame_layout.specs.Items.{frame_of}
 
 -- records of a codec, by their bytes
 abbrev pub records_with : Codec → List (List ℕ) → List Record

@@ -1,9 +1,9 @@
 ghost use Rattle.std.specs.Prelude.{◌≡◌, ◌≢◌, ◌<◌, ◌≤◌, ◌++◌, [], ◌∷◌, Some, length, IfOk, OnOk};
 ghost use Rattle.std.specs.List.{fold};
+ghost use Rattle.frame_layout.specs.Items.{frame_of, login_of};
 ghost use Rattle.trial_model.specs.RecordLists.{add_once};
 ghost use Rattle.trial_bench.specs.PlainConnection.{connection_of};
 ghost use Rattle.trial_bench.specs.PlainFrame.{ArePlain, body_of};
-ghost use Rattle.trial_model.specs.Frames.{frame_of, login_of};
 ghost use Rattle.avl_values.specs.Viewed.{records_of};
 ghost use Rattle.std.specs.Int.{to_be_bytes, w32};
 

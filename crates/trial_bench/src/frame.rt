@@ -1,7 +1,8 @@
 ghost use Rattle.std.specs.Prelude.{◌≡◌, ◌^◌, ◌<◌, ◌≤◌, length, IfOk};
 ghost use Rattle.avl_values.specs.Viewed.{records_of};
 ghost use Rattle.trial_bench.specs.PlainFrame.{ArePlain, body_of};
-ghost use Rattle.trial_model.specs.Frames.{body_at, frame_of, login_of};
+ghost use Rattle.frame_layout.specs.Items.{frame_of, login_of};
+ghost use Rattle.trial_model.specs.Frames.{body_at};
 
 use avl_values::{Imei, NoMemory, Rec};
 use crc_field::crc;

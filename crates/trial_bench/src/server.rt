@@ -4,7 +4,8 @@ ghost use Rattle.std.specs.Str.{bytes_eq};
 ghost use Rattle.avl_values.specs.declared.codec.Codec.{Codec as CodecOf};
 ghost use Rattle.record_layout.specs.Packet.{IsPacket};
 ghost use Rattle.trial_bench.specs.PlainFrame.{IsFrame, records_with};
-ghost use Rattle.trial_model.specs.Frames.{has_frame, login_of};
+ghost use Rattle.frame_layout.specs.Items.{login_of};
+ghost use Rattle.trial_model.specs.Frames.{has_frame};
 ghost use Rattle.trial_model.specs.RecordLists.{add_once};
 
 use crate::frame::{body_in, write_frame, write_login};

@@ -1,25 +1,17 @@
 -- What a stream up holds: a login, and then data frames (Teltonika, Data Sending Protocols, "Codec 8 protocol sending
 -- over TCP"). A frame has one data body, of any codec.
-use Rattle.std.specs.Prelude.{ℕ, zero, suc, ◌+◌, ◌&&◌, nat_eq, nat_le, Bool, true, false, List, [], ◌∷◌, ◌++◌, length, take, drop, if◌then◌else◌}
+use Rattle.std.specs.Prelude.{ℕ, zero, suc, ◌+◌, ◌&&◌, nat_eq, nat_le, Bool, true, false, List, [], ◌∷◌, length, take, drop, if◌then◌else◌}
 use Rattle.std.specs.List.{filter, flat_map, starts_with}
-use Rattle.std.specs.Int.{from_be_bytes, to_be_bytes, w16, w32}
-use Rattle.avl_values.specs.Imei.{imei_text}
+use Rattle.std.specs.Int.{from_be_bytes, w32}
 use Rattle.avl_values.specs.Record.{Record}
-use Rattle.crc_field.specs.Crc.{crc_of}
 use Rattle.layout.specs.Rows.{Verdict, whole, short, fault}
 use Rattle.record_layout.specs.PacketRows.{packet_verdict}
 use Rattle.record_layout.specs.RecordsOf.{records_of}
+use Rattle.frame_layout.specs.Items.{count_of, frame_of}
 
--- the length 15 in two bytes, and the 15 digits
-abbrev pub login_of : ℕ → List ℕ
-login_of imei = 0 ∷ 15 ∷ imei_text imei
-
+-- how many bytes a login has
 abbrev pub login_size : ℕ
 login_size = 17
-
--- four zero bytes, the body's length, the body, and its CRC in the low two of four bytes
-abbrev pub frame_of : List ℕ → List ℕ
-frame_of body = 0 ∷ 0 ∷ 0 ∷ 0 ∷ (to_be_bytes w32 (length body) ++ (body ++ 0 ∷ 0 ∷ to_be_bytes w16 (crc_of body)))
 
 abbrev pub is_whole : {V : Type 0} → Verdict V → Bool
 is_whole (whole v n) = true
@@ -73,6 +65,6 @@ frames_within n up = filter (λ f. nat_le f.end n) (frames_of up)
 abbrev pub records_in : List Frame → List Record
 records_in frames = flat_map (λ f. f.records) frames
 
--- a count, down: the number of a frame's records in four bytes
+-- the counts, down: for each frame the number of its records
 abbrev pub counts_of : List Frame → List ℕ
-counts_of frames = flat_map (λ f. to_be_bytes w32 (length f.records)) frames
+counts_of frames = flat_map (λ f. count_of (length f.records)) frames

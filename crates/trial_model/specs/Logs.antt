@@ -2,12 +2,13 @@
 use Rattle.std.specs.Prelude.{ℕ, ◌+◌, ◌*◌, ◌≡◌, ◌≤◌, nat_le, min, Bool, true, false, List, [], ◌∷◌, length, take, if◌then◌else◌}
 use Rattle.std.specs.List.{All}
 use Rattle.avl_values.specs.Record.{Record}
+use Rattle.frame_layout.specs.Items.{login_of}
 use Rattle.trial_model.specs.declared.outcome.ConnectionOutcome.{ConnectionOutcome}
 use Rattle.trial_model.specs.declared.outcome.DeviceEnd.{DeviceEnd}
 use Rattle.trial_model.specs.declared.outcome.DeviceEnd.TheVariants as End
 use Rattle.trial_model.specs.Connections.{ConnectionHistory, up_to}
 use Rattle.trial_model.specs.Delivery.{heard_bytes, heard_of}
-use Rattle.trial_model.specs.Frames.{frames_of, frames_within, login_of, login_size, stream_of}
+use Rattle.trial_model.specs.Frames.{frames_of, frames_within, login_size, stream_of}
 use Rattle.trial_model.specs.RecordLists.{AreIn}
 
 -- The bytes up are the device's login, and whole data frames of 1 to 255 records that earlier lines decided. A frame was

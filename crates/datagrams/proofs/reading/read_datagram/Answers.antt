@@ -7,7 +7,7 @@ use Rattle.record_codecs.specs.Verdicts.{read_verdict}
 use Rattle.datagrams.specs.DatagramRows.{numbers_rows}
 use Rattle.datagrams.proofs.DatagramFills.{behind_numbers}
 use Rattle.datagrams.proofs.DatagramReads.{at_length, behind_login, datagram_broken, datagram_read, datagram_said}
-use Rattle.datagrams.proofs.FaultPlaces.{packet_fault_place}
+use Rattle.datagrams.proofs.NumberReads.{packet_fault_place}
 use Rattle.datagrams.proofs.reading.read_datagram.Goals as goal
 
 pub returns-in_err-rest-clause-broken : goal.returns-in_err-rest-clause-broken
@@ -30,7 +30,7 @@ overflow_add-result c =
     let found = c.in-Err-read_packet.fault in
     let body = c.in-Ok.read.1.now in
     let e : packet_verdict (length body) body ≡ fault found.kind found.place = sym c.read_packet.ensures ∙ ap (read_verdict (length body)) c.in-Err-read_packet.is in
-    omega (arith, packet_fault_place (length body) found.place found.kind body e, c.in-Ok.ensures.few, c.in_ok-numbers.ensures.few, c.in_ok-rest.ensures.few)
+    omega (arith, packet_fault_place (length body) body found.kind found.place e, c.in-Ok.ensures.few, c.in_ok-numbers.ensures.few, c.in_ok-rest.ensures.few)
 
 pub returns-in-Ok-read_packet-clause-value : goal.returns-in-Ok-read_packet-clause-value
 returns-in-Ok-read_packet-clause-value c =

@@ -1,5 +1,5 @@
 use Rattle.std.proofs.Common.{◌≡◌, length, Some, refl, ap, ◌∙◌}
-use Rattle.trial_model.specs.Frames.{frame_of}
+use Rattle.frame_layout.specs.Items.{frame_of}
 use Rattle.trial_bench.specs.PlainConnection.{down_of, up_of}
 use Rattle.trial_bench.specs.PlainFrame.{body_of}
 use Rattle.trial_bench.proofs.Talks.{is_count, talked}

@@ -1,9 +1,0 @@
-use Rattle.std.proofs.Common.{arith}
-use Rattle.command_codecs.proofs.CommandSteps.{power_bound}
-use Rattle.command_codecs.proofs.number.number.Goals as goal
-
-pub overflow_mul-n : goal.overflow_mul-n
-overflow_mul-n c = omega (arith, power_bound c.loop-byte.byte-index (omega arith))
-
-pub overflow_add-n : goal.overflow_add-n
-overflow_add-n c = omega (arith, power_bound c.loop-byte.byte-index (omega arith), c.type_inv.field c.loop-byte.byte-index)

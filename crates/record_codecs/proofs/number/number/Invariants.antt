@@ -1,6 +1,0 @@
-use Rattle.std.proofs.Common.{◌≡◌, ◌<◌, ◌^◌, take}
-use Rattle.layout.specs.Fields.{number}
-use Rattle.record_codecs.proofs.number.number.Given as goal
-
-abbrev pub invariant-loop-byte : goal.invariant-loop-byte
-invariant-loop-byte l = (l.n ≡ number (take l.byte-index l.field)) × (l.n < 256 ^ l.byte-index)
