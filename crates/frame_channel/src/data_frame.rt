@@ -59,16 +59,13 @@ fn split(bytes: &[u8]) -> Option<(&[u8], &[u8])>
 }
 
 /// The data frame that stands whole at the front of these bytes, where one does. Otherwise there is a part of one, another item or
-/// a fault.
+/// a fault. Of another item no more than its first bytes are looked at.
 pub fn data_frame(bytes: &[u8]) -> Option<DataFrame<'_>>
     ensures { IfSome result (λ frame. BeginsWith frame.head frame.body.now bytes.now) }
 {
     let (body, behind) = split(bytes)?;
-    if !ends(crc(body), behind) {
-        return None;
-    }
     match read_packet(body) {
-        Ok(head) => Some(DataFrame { head, body }),
-        Err(_) => None,
+        Ok(head) if ends(crc(body), behind) => Some(DataFrame { head, body }),
+        _ => None,
     }
 }

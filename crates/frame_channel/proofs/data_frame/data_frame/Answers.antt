@@ -9,5 +9,5 @@ returns-in-Ok c =
     let body = c.in_ok-body.body.now in
     let behind = c.in_ok-body.behind.now in
     frame_stands c.in-Ok.head body behind c.args.bytes.now (drop 4 behind) c.in_ok-body.ensures
-    (ended c.crc.result behind (c.if-not-ends.ensures refl) ∙ ap (λ n. 0 ∷ 0 ∷ (to_be_bytes w16 n ++ drop 4 behind)) c.crc.ensures)
+    (ended c.crc.result behind (c.if-ends.ensures refl) ∙ ap (λ n. 0 ∷ 0 ∷ (to_be_bytes w16 n ++ drop 4 behind)) c.crc.ensures)
     (sym c.read_packet.ensures ∙ ap (read_verdict (length body)) c.in-Ok.is)
