@@ -3,6 +3,7 @@ ghost use Rattle.medium.specs.CallsLeft.{unlimited};
 
 use archive_journal::ArchiveFault;
 use avl_values::Imei;
+use hex::decode;
 use medium::{Bench, Medium, MemoryBench, MemoryMedium, Tear};
 use record_codecs::read_packet;
 use shelf::{AdmitFault, Receipt, Shelf};
@@ -103,114 +104,150 @@ fn what_is_no_archive(rt: HostRuntime) -> Result<(), Fail> {
     Ok(())
 }
 
-// One record on an empty medium: its place, and the file.
-fn first_file(alloc: Global) -> Option<(u8, u64, MemoryMedium)> {
-    let Ok(mut shelf) = opened(alloc, b"", &[])? else {
-        return None;
-    };
-    let (count, at, _) = places(admit(alloc, &mut shelf, DEVICE, &[0x30]))?;
-    Some((count, at, shelf.into_medium()))
+// A shelf over an empty medium that fails at this call.
+fn over_nothing(alloc: Global, failing: u64) -> Option<Shelf<MemoryMedium>> {
+    match opened(alloc, b"", &[failing])? {
+        Ok(shelf) => Some(shelf),
+        Err(_) => None,
+    }
 }
 
-const FILE: [u8; 54] =
-    *b"FMBARCH1\xa5\x00\x00\x00\x28\x00\x01\x44\x0f\x32\xb2\x17\x35\x08\x01\x00\x00\x01\x6b\x40\xd8\xea\x30\
-\x00\x00\x00\x00\x00\x00\x00\x00\x00\x00\x00\x00\x00\x00\x00\x00\x00\x00\x00\x00\x00\x00\x00";
+// The places of a packet of one record.
+fn admit_one(alloc: Global, shelf: &mut Shelf<MemoryMedium>) -> Option<(u8, u64, u64)> {
+    places(admit(alloc, shelf, DEVICE, &[0x30]))
+}
+
+// One record on an empty medium: its count and places, and the file.
+fn first_file(alloc: Global) -> Option<((u8, u64, u64), MemoryMedium)> {
+    let mut shelf = over_nothing(alloc, 8)?;
+    let first = admit_one(alloc, &mut shelf)?;
+    Some((first, shelf.into_medium()))
+}
+
+/// The file of one record, of Codec 8 and with no elements.
+const FILE: &str =
+    "464d424152434831a5000000280001440f32b2173508010000016b40d8ea300000000000000000000000000000000000000000000000";
+
+// Whether bytes are those of a text in hex.
+fn is_hex(alloc: Global, bytes: &[u8], text: &str) -> bool {
+    match decode(alloc, text.as_bytes()) {
+        Ok(wanted) => bytes == wanted.as_slice(),
+        Err(_) => false,
+    }
+}
 
 #[test]
 fn the_file_of_one_record(rt: HostRuntime) -> Result<(), Fail> {
-    let (count, at, medium) = first_file(rt.alloc()).ok_or("a file")?;
-    assert_eq!(rt; (count, at), (1, 0));
-    assert_eq!(rt; medium.content(), FILE.as_slice());
+    let alloc = rt.alloc();
+    let (first, medium) = first_file(alloc).ok_or("a file")?;
+    assert!(rt; first == (1, 0, 99));
+    assert!(rt; is_hex(alloc, medium.content(), FILE));
     Ok(())
 }
 
-// A packet that has a record twice; two records, once and again; two devices: the places, and how many are listed.
-fn listed(alloc: Global, packets: &[(u64, &[u8])]) -> Option<(u8, u64, u64, usize)> {
-    let Ok(mut shelf) = opened(alloc, b"", &[12])? else {
-        return None;
-    };
+// The places of the last of several packets.
+fn admit_all(
+    alloc: Global,
+    shelf: &mut Shelf<MemoryMedium>,
+    packets: &[(u64, &[u8])],
+) -> Option<(u8, u64, u64)> {
     let mut last = (0, 99, 99);
     for (device, times) in packets {
-        last = places(admit(alloc, &mut shelf, *device, *times))?;
+        last = places(admit(alloc, shelf, *device, *times))?;
     }
-    Some((last.0, last.1, last.2, shelf.list().len()))
+    Some(last)
 }
 
+// The places of the last packet on a medium that was empty, and how many records are listed.
+fn listed(alloc: Global, packets: &[(u64, &[u8])]) -> Option<((u8, u64, u64), usize)> {
+    let mut shelf = over_nothing(alloc, 12)?;
+    let last = admit_all(alloc, &mut shelf, packets)?;
+    Some((last, shelf.list().len()))
+}
+
+// A packet that has a record twice, and one of two records.
+#[test]
+fn each_record_of_a_packet_once(rt: HostRuntime) -> Result<(), Fail> {
+    let alloc = rt.alloc();
+    let twice = listed(alloc, &[(DEVICE, &[0x30, 0x30])]);
+    assert!(rt; twice == Some(((2, 0, 0), 1)));
+    let two = listed(alloc, &[(DEVICE, &[0x30, 0x31])]);
+    assert!(rt; two == Some(((2, 0, 1), 2)));
+    Ok(())
+}
+
+// Two records, once more and in the other order; the same time of two devices.
 #[test]
 fn each_record_of_a_device_once(rt: HostRuntime) -> Result<(), Fail> {
-    assert_eq!(rt;
-        listed(rt.alloc(), &[(DEVICE, &[0x30, 0x30])]),
-        Some((2, 0, 0, 1))
-    );
-    assert_eq!(rt;
-        listed(rt.alloc(), &[(DEVICE, &[0x30, 0x31])]),
-        Some((2, 0, 1, 2))
-    );
+    let alloc = rt.alloc();
     let again: [(u64, &[u8]); 3] = [
         (DEVICE, &[0x30, 0x31]),
         (DEVICE, &[0x30, 0x31]),
         (DEVICE, &[0x31, 0x30]),
     ];
-    assert_eq!(rt; listed(rt.alloc(), &again), Some((2, 1, 0, 2)));
+    assert!(rt; listed(alloc, &again) == Some(((2, 1, 0), 2)));
     let both: [(u64, &[u8]); 2] = [(DEVICE, &[0x30]), (OTHER, &[0x30])];
-    assert_eq!(rt; listed(rt.alloc(), &both), Some((1, 1, 99, 2)));
+    assert!(rt; listed(alloc, &both) == Some(((1, 1, 99), 2)));
     Ok(())
 }
 
 /// The body of Teltonika's example of Codec 16, with two records.
-const CODEC_16: [u8; 95] = [
-    0x10, 0x02, 0x00, 0x00, 0x01, 0x6b, 0xdb, 0xc7, 0x83, 0x30, 0x00, 0x00, 0x00, 0x00, 0x00, 0x00,
-    0x00, 0x00, 0x00, 0x00, 0x00, 0x00, 0x00, 0x00, 0x00, 0x00, 0x00, 0x0b, 0x05, 0x04, 0x02, 0x00,
-    0x01, 0x00, 0x00, 0x03, 0x00, 0x02, 0x00, 0x0b, 0x00, 0x27, 0x00, 0x42, 0x56, 0x3a, 0x00, 0x00,
-    0x00, 0x00, 0x01, 0x6b, 0xdb, 0xc7, 0x87, 0x18, 0x00, 0x00, 0x00, 0x00, 0x00, 0x00, 0x00, 0x00,
-    0x00, 0x00, 0x00, 0x00, 0x00, 0x00, 0x00, 0x00, 0x00, 0x0b, 0x05, 0x04, 0x02, 0x00, 0x01, 0x00,
-    0x00, 0x03, 0x00, 0x02, 0x00, 0x0b, 0x00, 0x26, 0x00, 0x42, 0x56, 0x3a, 0x00, 0x00, 0x02,
-];
+const CODEC_16: &str =
+    "10020000016bdbc7833000000000000000000000000000000000000b05040200010000030002000b00270042563a00000000016bdbc7871800000000000000000000000000000000000b05040200010000030002000b00260042563a000002";
+
+// The places of a body that is admitted twice, as the second time answered.
+fn admit_twice(
+    shelf: &mut Shelf<MemoryMedium>,
+    imei: Imei,
+    bytes: &[u8],
+) -> Option<(u8, u64, u64)> {
+    places(admit_bytes(shelf, imei, bytes))?;
+    places(admit_bytes(shelf, imei, bytes))
+}
+
+// The places of a device that has two.
+fn two_places(shelf: &Shelf<MemoryMedium>, imei: Imei) -> Option<(u64, u64)> {
+    let Ok(found) = shelf.device(imei) else {
+        return None;
+    };
+    match found.as_slice() {
+        [first, second] => Some((*first, *second)),
+        _ => None,
+    }
+}
 
 // The example admitted twice, over a medium whose first call behind the first time fails: what the second time answered, how
 // many records are listed, and the device's places.
 fn example_twice(alloc: Global) -> Option<((u8, u64, u64), usize, (u64, u64))> {
-    let Ok(mut shelf) = opened(alloc, b"", &[8])? else {
-        return None;
-    };
     let imei = Imei::from_number(DEVICE)?;
-    places(admit_bytes(&mut shelf, imei, &CODEC_16))?;
-    let again = places(admit_bytes(&mut shelf, imei, &CODEC_16))?;
-    let Ok(found) = shelf.device(imei) else {
+    let Ok(bytes) = decode(alloc, CODEC_16.as_bytes()) else {
         return None;
     };
-    match found.as_slice() {
-        [first, second] => Some((again, shelf.list().len(), (*first, *second))),
-        _ => None,
-    }
+    let mut shelf = over_nothing(alloc, 8)?;
+    let again = admit_twice(&mut shelf, imei, &bytes)?;
+    let found = two_places(&shelf, imei)?;
+    Some((again, shelf.list().len(), found))
 }
 
 #[test]
 fn an_example_again_makes_no_call_of_the_medium(rt: HostRuntime) -> Result<(), Fail> {
-    assert_eq!(rt; example_twice(rt.alloc()), Some(((2, 0, 1), 2, (0, 1))));
+    assert!(rt; example_twice(rt.alloc()) == Some(((2, 0, 1), 2, (0, 1))));
     Ok(())
 }
 
-// How many devices a shelf of two records has, and the places of one of them.
-fn devices(alloc: Global) -> Option<(u64, u64, u64)> {
-    let Ok(mut shelf) = opened(alloc, b"", &[])? else {
-        return None;
-    };
+// How many devices a shelf of three records has, and the places of one of them.
+fn devices(alloc: Global) -> Option<(u64, (u64, u64))> {
     let imei = Imei::from_number(DEVICE)?;
-    places(admit(alloc, &mut shelf, DEVICE, &[0x30, 0x31]))?;
-    places(admit(alloc, &mut shelf, OTHER, &[0x30]))?;
-    let Ok(found) = shelf.device(imei) else {
-        return None;
-    };
-    match found.as_slice() {
-        [first, second] => Some((shelf.devices(), *first, *second)),
-        _ => None,
-    }
+    let mut shelf = over_nothing(alloc, 12)?;
+    let packets: [(u64, &[u8]); 2] = [(DEVICE, &[0x30, 0x31]), (OTHER, &[0x30])];
+    admit_all(alloc, &mut shelf, &packets)?;
+    let found = two_places(&shelf, imei)?;
+    Some((shelf.devices(), found))
 }
 
 #[test]
 fn the_places_of_a_device(rt: HostRuntime) -> Result<(), Fail> {
-    assert_eq!(rt; devices(rt.alloc()), Some((2, 0, 1)));
+    assert!(rt; devices(rt.alloc()) == Some((2, (0, 1))));
     Ok(())
 }
 
@@ -227,15 +264,16 @@ fn on_a_bench(alloc: Global) -> Option<Shelf<MemoryBench>>
     }
 }
 
-// A power loss inside the first admit after so many calls: how many records are listed after the restart.
-fn cut(alloc: Global, calls: u64, tear: Tear) -> usize {
-    let Some(mut shelf) = on_a_bench(alloc) else {
-        return 99;
-    };
+// A shelf whose power was lost inside the first admit after so many calls, or behind it.
+fn torn(alloc: Global, calls: u64, tear: Tear) -> Option<Shelf<MemoryBench>> {
+    let mut shelf = on_a_bench(alloc)?;
     shelf.arm(calls, tear);
-    if admit(alloc, &mut shelf, DEVICE, &[0x30]).is_none() {
-        return 98;
-    }
+    let _answer = admit(alloc, &mut shelf, DEVICE, &[0x30])?;
+    Some(shelf)
+}
+
+// How many records a shelf lists after a restart of its bench, or 97 where it can't be opened.
+fn listed_after_restart(alloc: Global, shelf: Shelf<MemoryBench>) -> usize {
     let mut bench = shelf.into_medium();
     bench.restart();
     match Shelf::open(alloc, bench) {
@@ -244,64 +282,86 @@ fn cut(alloc: Global, calls: u64, tear: Tear) -> usize {
     }
 }
 
+// A power loss inside the first admit after so many calls: how many records are listed after the restart.
+fn cut(alloc: Global, calls: u64, tear: Tear) -> usize {
+    match torn(alloc, calls, tear) {
+        Some(shelf) => listed_after_restart(alloc, shelf),
+        None => 99,
+    }
+}
+
+// Whether so many records are listed with this tear, by how many calls passed before the power was lost.
+fn cuts_list(alloc: Global, tear: Tear, listed: &[usize]) -> bool {
+    for (calls, wanted) in listed.iter().enumerate() {
+        if cut(alloc, calls as u64, tear) != *wanted {
+            return false;
+        }
+    }
+    true
+}
+
 #[test]
 fn a_power_loss_inside_an_admit(rt: HostRuntime) -> Result<(), Fail> {
-    for tear in [Tear::Keep, Tear::Zero, Tear::Half, Tear::New, Tear::AllOpen] {
-        assert_eq!(rt; cut(rt.alloc(), 0, tear), 0);
-        assert_eq!(rt; cut(rt.alloc(), 1, tear), 0);
-        assert_eq!(rt; cut(rt.alloc(), 4, tear), 1);
-    }
-    for calls in 2..4 {
-        for tear in [Tear::Keep, Tear::Zero, Tear::Half] {
-            assert_eq!(rt; cut(rt.alloc(), calls, tear), 0);
-        }
-        for tear in [Tear::New, Tear::AllOpen] {
-            assert_eq!(rt; cut(rt.alloc(), calls, tear), 1);
-        }
-    }
+    let alloc = rt.alloc();
+    assert!(rt; cuts_list(alloc, Tear::Keep, &[0, 0, 0, 0, 1]));
+    assert!(rt; cuts_list(alloc, Tear::Zero, &[0, 0, 0, 0, 1]));
+    assert!(rt; cuts_list(alloc, Tear::Half, &[0, 0, 0, 0, 1]));
+    assert!(rt; cuts_list(alloc, Tear::New, &[0, 0, 1, 1, 1]));
+    assert!(rt; cuts_list(alloc, Tear::AllOpen, &[0, 0, 1, 1, 1]));
     Ok(())
+}
+
+// Admits a record twice: where that failed, and what the second call answered.
+fn failing_admit(
+    alloc: Global,
+    shelf: &mut Shelf<MemoryMedium>,
+) -> (&'static str, Option<AdmitFault>) {
+    match admit(alloc, shelf, DEVICE, &[0x30]) {
+        Some(Ok(_)) => ("stored", None),
+        Some(Err(AdmitFault::MediumFault { faults: 1 })) => ("admit", second(alloc, shelf)),
+        _ => ("other", None),
+    }
+}
+
+// What a shelf that is down answers.
+fn second(alloc: Global, shelf: &mut Shelf<MemoryMedium>) -> Option<AdmitFault> {
+    if !shelf.list().is_empty() {
+        return None;
+    }
+    match admit(alloc, shelf, DEVICE, &[0x30]) {
+        Some(Err(fault)) => Some(fault),
+        _ => None,
+    }
+}
+
+// Where a shelf was refused.
+fn refused(fault: ArchiveFault, medium: &MemoryMedium) -> &'static str {
+    if fault == ArchiveFault::MediumFault && medium.faults() == 1 {
+        "open"
+    } else {
+        "refused"
+    }
 }
 
 // Opens a shelf of which one call fails, and admits a record twice: where that failed, and what the second call answered.
 fn failing_call(alloc: Global, call: u64) -> (&'static str, Option<AdmitFault>) {
     match opened(alloc, b"", &[call, call.saturating_add(1)]) {
         None => ("memory", None),
-        Some(Err((ArchiveFault::MediumFault, medium))) if medium.faults() == 1 => ("open", None),
-        Some(Err(_)) => ("refused", None),
-        Some(Ok(shelf)) => {
-            let mut shelf = shelf;
-            match admit(alloc, &mut shelf, DEVICE, &[0x30]) {
-                Some(Ok(_)) => ("stored", None),
-                Some(Err(AdmitFault::MediumFault { faults: 1 })) => ("admit", second(alloc, shelf)),
-                _ => ("other", None),
-            }
-        }
-    }
-}
-
-// What a shelf that is down answers.
-fn second(alloc: Global, shelf: Shelf<MemoryMedium>) -> Option<AdmitFault> {
-    let mut shelf = shelf;
-    if !shelf.list().is_empty() {
-        return None;
-    }
-    match admit(alloc, &mut shelf, DEVICE, &[0x30]) {
-        Some(Err(fault)) => Some(fault),
-        _ => None,
+        Some(Err((fault, medium))) => (refused(fault, &medium), None),
+        Some(Ok(mut shelf)) => failing_admit(alloc, &mut shelf),
     }
 }
 
 #[test]
 fn each_call_of_a_shelf_fails_in_turn(rt: HostRuntime) -> Result<(), Fail> {
+    let alloc = rt.alloc();
+    let down = Some(AdmitFault::Down { faults: 1 });
     for call in 0..4 {
-        assert_eq!(rt; failing_call(rt.alloc(), call), ("open", None));
+        assert!(rt; failing_call(alloc, call) == ("open", None));
     }
     for call in 4..8 {
-        assert_eq!(rt;
-            failing_call(rt.alloc(), call),
-            ("admit", Some(AdmitFault::Down { faults: 1 }))
-        );
+        assert!(rt; failing_call(alloc, call) == ("admit", down));
     }
-    assert_eq!(rt; failing_call(rt.alloc(), 8), ("stored", None));
+    assert!(rt; failing_call(alloc, 8) == ("stored", None));
     Ok(())
 }

@@ -126,24 +126,20 @@ fn down_answer(alloc: Global, down: &mut Down, text: &str) -> Option<(usize, Dow
     Some(down.push(&bytes))
 }
 
+// Whether a reader of a stream down takes so many bytes of a text, and answers this.
+fn tells(alloc: Global, down: &mut Down, text: &str, taken: usize, item: DownItem) -> bool {
+    down_answer(alloc, down, text) == Some((taken, item))
+}
+
 #[test]
 fn a_command_between_counts(rt: HostRuntime) -> Result<(), Fail> {
     let alloc = rt.alloc();
     let mut down = Down::answers();
-    assert_eq!(rt;
-        down_answer(alloc, &mut down, "00000001"),
-        Some((4, DownItem::Count(1)))
-    );
+    assert!(rt; tells(alloc, &mut down, "00000001", 4, DownItem::Count(1)));
     assert!(rt; down.body().is_empty());
-    assert_eq!(rt;
-        down_answer(alloc, &mut down, GETINFO),
-        Some((27, DownItem::Order))
-    );
-    assert_eq!(rt;
-        down_answer(alloc, &mut down, "00000002"),
-        Some((4, DownItem::Count(2)))
-    );
-    assert_eq!(rt; down.body().len(), 15);
+    assert!(rt; tells(alloc, &mut down, GETINFO, 27, DownItem::Order));
+    assert!(rt; tells(alloc, &mut down, "00000002", 4, DownItem::Count(2)));
+    assert!(rt; down.body().len() == 15);
     down.begin_answers();
     assert!(rt; down.body().is_empty());
     Ok(())
@@ -157,26 +153,58 @@ fn up_answer(up: &mut Up, bytes: &[u8]) -> Option<(usize, UpItem)> {
     Some(up.push(bytes))
 }
 
+// A reader of a stream up, at its login or behind it.
+fn reader(alloc: Global, after_login: bool) -> Option<Up> {
+    let up = if after_login {
+        Up::frames(alloc)
+    } else {
+        Up::new(alloc)
+    };
+    match up {
+        Ok(up) => Some(up),
+        Err(_) => None,
+    }
+}
+
+// Whether the response is read, and its body is lent.
+fn is_response(up: &mut Up, frame: &[u8]) -> bool {
+    up_answer(up, frame) == Some((22, UpItem::Response))
+        && up.body() == b"\x0c\x01\x06\0\0\0\x02ok\x01".as_slice()
+}
+
+// Whether a response is refused at its type on the way down.
+fn is_no_order(frame: &[u8]) -> bool {
+    let mut down = Down::answers();
+    let kind = FaultKind::CommandType;
+    in_pieces(&mut down, frame, 40) == DownItem::Broken(Fault { kind, place: 10 })
+}
+
 #[test]
 fn a_response_up(rt: HostRuntime) -> Result<(), Fail> {
     let response = command(0x0c, 0x06, None, b"ok");
     let frame = framed(&response, Way::Up).ok_or("a response")?;
-    let mut up = Up::frames(rt.alloc()).map_err(|_| "ample memory")?;
-    assert_eq!(rt; up_answer(&mut up, &frame), Some((22, UpItem::Response)));
-    assert_eq!(rt; up.body(), b"\x0c\x01\x06\0\0\0\x02ok\x01".as_slice());
-    let mut down = Down::answers();
-    let kind = FaultKind::CommandType;
-    assert_eq!(rt;
-        in_pieces(&mut down, &frame, 40),
-        DownItem::Broken(Fault { kind, place: 10 })
-    );
+    let mut up = reader(rt.alloc(), true).ok_or("ample memory")?;
+    assert!(rt; is_response(&mut up, &frame));
+    assert!(rt; is_no_order(&frame));
     Ok(())
 }
 
 // Whether a reader of a stream up fails at the type of these bytes.
 fn fails_at_type(up: &mut Up, bytes: &[u8]) -> bool {
     let kind = FaultKind::CommandType;
-    up_answer(up, bytes) == Some((11, UpItem::Broken(Fault { kind, place: 10 })))
+    up_answer(up, bytes) == Some((11, UpItem::Broken(Fault { kind, place: 10 }))) && up.failed()
+}
+
+// How many bytes of a login are taken.
+fn taken(up: &mut Up, login: &[u8]) -> Option<usize> {
+    let (taken, _) = up_answer(up, login)?;
+    Some(taken)
+}
+
+// Whether the stream goes on with a login once it was begun anew.
+fn begins_login(up: &mut Up) -> bool {
+    up.begin_login();
+    up_answer(up, b"\0\x0f") == Some((2, UpItem::More))
 }
 
 #[test]
@@ -184,13 +212,10 @@ fn a_command_up(rt: HostRuntime) -> Result<(), Fail> {
     let alloc = rt.alloc();
     let login = bytes_of(alloc, LOGIN).ok_or("hex")?;
     let frame = bytes_of(alloc, GETINFO).ok_or("hex")?;
-    let mut up = Up::new(alloc).map_err(|_| "ample memory")?;
-    let (taken, _) = up_answer(&mut up, &login).ok_or("failed")?;
-    assert_eq!(rt; taken, 17);
+    let mut up = reader(alloc, false).ok_or("ample memory")?;
+    assert!(rt; taken(&mut up, &login) == Some(17));
     assert!(rt; fails_at_type(&mut up, &frame));
-    assert!(rt; up.failed());
-    up.begin_login();
-    assert_eq!(rt; up_answer(&mut up, b"\0\x0f"), Some((2, UpItem::More)));
+    assert!(rt; begins_login(&mut up));
     up.begin_frames();
     assert!(rt; fails_at_type(&mut up, &frame));
     Ok(())

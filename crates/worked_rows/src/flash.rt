@@ -65,43 +65,59 @@ fn held_after_restart(alloc: Global, ring: Ring<MemoryBench>, slots: u16) -> u16
     }
 }
 
-// A power loss inside a `put` into 16 slots after so many calls: whether it was stored, and how many are held afterwards.
-fn put_cut(alloc: Global, calls: u64, tear: Tear) -> (bool, u16) {
-    let Some(mut ring) = formatted(alloc, 16) else {
-        return (false, 98);
-    };
+// A ring of 16 slots whose power was lost inside a `put` after so many calls, or behind it, and whether that was stored.
+fn torn(alloc: Global, calls: u64, tear: Tear) -> Option<(bool, Ring<MemoryBench>)> {
+    let mut ring = formatted(alloc, 16)?;
     ring.arm(calls, tear);
     let stored = store(&mut ring).is_none();
-    (stored, held_after_restart(alloc, ring, 16))
+    Some((stored, ring))
+}
+
+// A power loss inside a `put` into 16 slots after so many calls: whether it was stored, and how many are held afterwards.
+fn put_cut(alloc: Global, calls: u64, tear: Tear) -> (bool, u16) {
+    match torn(alloc, calls, tear) {
+        Some((stored, ring)) => (stored, held_after_restart(alloc, ring, 16)),
+        None => (false, 98),
+    }
+}
+
+// Whether so many are held with this tear, by how many calls passed before the power was lost, and one where four did and the
+// record was stored.
+fn cuts_hold(alloc: Global, tear: Tear, held: &[u16]) -> bool {
+    for (calls, wanted) in held.iter().enumerate() {
+        if put_cut(alloc, calls as u64, tear) != (false, *wanted) {
+            return false;
+        }
+    }
+    put_cut(alloc, 4, tear) == (true, 1)
 }
 
 #[test]
 fn a_power_loss_inside_a_put(rt: HostRuntime) -> Result<(), Fail> {
-    for tear in [Tear::Keep, Tear::Zero, Tear::Half] {
-        for calls in 0..4 {
-            assert_eq!(rt; put_cut(rt.alloc(), calls, tear), (false, 0));
-        }
-        assert_eq!(rt; put_cut(rt.alloc(), 4, tear), (true, 1));
-    }
-    for tear in [Tear::New, Tear::AllOpen] {
-        for (calls, held) in [(0, 0), (1, 0), (2, 1), (3, 1)] {
-            assert_eq!(rt; put_cut(rt.alloc(), calls, tear), (false, held));
-        }
-        assert_eq!(rt; put_cut(rt.alloc(), 4, tear), (true, 1));
-    }
+    let alloc = rt.alloc();
+    assert!(rt; cuts_hold(alloc, Tear::Keep, &[0, 0, 0, 0]));
+    assert!(rt; cuts_hold(alloc, Tear::Zero, &[0, 0, 0, 0]));
+    assert!(rt; cuts_hold(alloc, Tear::Half, &[0, 0, 0, 0]));
+    assert!(rt; cuts_hold(alloc, Tear::New, &[0, 0, 1, 1]));
+    assert!(rt; cuts_hold(alloc, Tear::AllOpen, &[0, 0, 1, 1]));
     Ok(())
 }
 
-// What refuses a medium of so many zero bytes, with two bytes at the front of slot 3 where it has one.
-fn refusal(alloc: Global, size: usize, gate: u8, codec: u8) -> Option<OpenFault> {
+// So many zero bytes, with two bytes at the front of slot 3 where there is one.
+fn with_a_front(alloc: Global, size: usize, gate: u8, codec: u8) -> Option<Vec<u8>> {
     let Ok(mut bytes) = vec![in alloc; 0u8; size] else {
-        return Some(OpenFault::NoMemory);
+        return None;
     };
     if bytes.len() > 817 {
         bytes[816] = gate;
         bytes[817] = codec;
     }
-    let Ok(medium) = MemoryMedium::new(alloc, &bytes, &[]) else {
+    Some(bytes)
+}
+
+// What refuses a medium of these bytes as a ring of 16 slots.
+fn refusal_of(alloc: Global, bytes: &[u8]) -> Option<OpenFault> {
+    let Ok(medium) = MemoryMedium::new(alloc, bytes, &[]) else {
         return Some(OpenFault::NoMemory);
     };
     match Ring::open(alloc, medium, 16) {
@@ -110,80 +126,108 @@ fn refusal(alloc: Global, size: usize, gate: u8, codec: u8) -> Option<OpenFault>
     }
 }
 
+// What refuses a medium of so many zero bytes, with two bytes at the front of slot 3 where it has one.
+fn refusal(alloc: Global, size: usize, gate: u8, codec: u8) -> Option<OpenFault> {
+    match with_a_front(alloc, size, gate, codec) {
+        Some(bytes) => refusal_of(alloc, &bytes),
+        None => Some(OpenFault::NoMemory),
+    }
+}
+
 #[test]
 fn what_is_no_flash(rt: HostRuntime) -> Result<(), Fail> {
+    let alloc = rt.alloc();
     let too_small = OpenFault::WrongSize {
         got: 271,
         wanted: 4352,
     };
-    assert_eq!(rt; refusal(rt.alloc(), 271, 0, 0), Some(too_small));
-    assert_eq!(rt;
-        refusal(rt.alloc(), 4352, 0xa5, 7),
-        Some(OpenFault::BadSlot { slot: 3 })
-    );
-    assert_eq!(rt; refusal(rt.alloc(), 4352, 0, 7), None);
+    assert!(rt; refusal(alloc, 271, 0, 0) == Some(too_small));
+    let bad_slot = OpenFault::BadSlot { slot: 3 };
+    assert!(rt; refusal(alloc, 4352, 0xa5, 7) == Some(bad_slot));
+    assert!(rt; refusal(alloc, 4352, 0, 7).is_none());
     Ok(())
+}
+
+// Two closed slots on a medium of which one call fails.
+fn two_closed(
+    alloc: Global,
+    call: u64,
+) -> Option<Result<Ring<MemoryMedium>, (OpenFault, MemoryMedium)>> {
+    let Ok(bytes) = vec![in alloc; 0u8; 544] else {
+        return None;
+    };
+    let Ok(medium) = MemoryMedium::new(alloc, &bytes, &[call]) else {
+        return None;
+    };
+    Some(Ring::open(alloc, medium, 2))
+}
+
+// Where a ring was refused.
+fn refused(fault: OpenFault, medium: &MemoryMedium) -> (&'static str, bool) {
+    match fault {
+        OpenFault::MediumFault => ("open", medium.faults() == 1),
+        _ => ("refused", false),
+    }
+}
+
+// Stores a record: where that failed, and whether it passes once the ring was opened again.
+fn failing_put(ring: &mut Ring<MemoryMedium>) -> (&'static str, bool) {
+    match store(ring) {
+        Some(PutFault::MediumFault) => ("put", stores_again(ring)),
+        Some(PutFault::SeqSpent) => ("spent", false),
+        None => ("stored", true),
+    }
+}
+
+// Whether a ring that is down stores a record once it was opened again.
+fn stores_again(ring: &mut Ring<MemoryMedium>) -> bool {
+    ring.is_down() && ring.reopen().is_ok() && store(ring).is_none()
 }
 
 // Opens two closed slots on a medium of which one call fails, and stores a record: where that failed, by the number of the
 // call that can, and whether it passes once the ring was opened again.
 fn failing_call(alloc: Global, call: u64) -> (&'static str, bool) {
-    let Ok(bytes) = vec![in alloc; 0u8; 544] else {
-        return ("memory", false);
-    };
-    let Ok(medium) = MemoryMedium::new(alloc, &bytes, &[call]) else {
-        return ("memory", false);
-    };
-    match Ring::open(alloc, medium, 2) {
-        Err((OpenFault::MediumFault, medium)) => ("open", medium.faults() == 1),
-        Err(_) => ("refused", false),
-        Ok(ring) => {
-            let mut ring = ring;
-            match store(&mut ring) {
-                Some(PutFault::MediumFault) => ("put", stores_again(ring)),
-                Some(PutFault::SeqSpent) => ("spent", false),
-                None => ("stored", true),
-            }
-        }
+    match two_closed(alloc, call) {
+        None => ("memory", false),
+        Some(Err((fault, medium))) => refused(fault, &medium),
+        Some(Ok(mut ring)) => failing_put(&mut ring),
     }
-}
-
-// Whether a ring that is down stores a record once it was opened again.
-fn stores_again(ring: Ring<MemoryMedium>) -> bool {
-    let mut ring = ring;
-    ring.is_down() && ring.reopen().is_ok() && store(&mut ring).is_none()
 }
 
 #[test]
 fn each_call_fails_in_turn(rt: HostRuntime) -> Result<(), Fail> {
+    let alloc = rt.alloc();
     for call in 0..4 {
-        assert_eq!(rt; failing_call(rt.alloc(), call), ("open", true));
+        assert!(rt; failing_call(alloc, call) == ("open", true));
     }
     for call in 4..8 {
-        assert_eq!(rt; failing_call(rt.alloc(), call), ("put", true));
+        assert!(rt; failing_call(alloc, call) == ("put", true));
     }
-    assert_eq!(rt; failing_call(rt.alloc(), 8), ("stored", true));
+    assert!(rt; failing_call(alloc, 8) == ("stored", true));
     Ok(())
+}
+
+// Stores so many records.
+fn stores<M: Medium>(ring: &mut Ring<M>, count: u16) -> bool {
+    for _ in 0..count {
+        if store(ring).is_some() {
+            return false;
+        }
+    }
+    true
 }
 
 // Two slots that hold a record each, over a medium of which the call of this number fails: four open the ring, and four
 // store each record.
 fn two_held(alloc: Global, call: u64) -> Option<Ring<MemoryMedium>> {
-    let Ok(bytes) = vec![in alloc; 0u8; 544] else {
+    let Ok(mut ring) = two_closed(alloc, call)? else {
         return None;
     };
-    let Ok(medium) = MemoryMedium::new(alloc, &bytes, &[call]) else {
-        return None;
-    };
-    let Ok(mut ring) = Ring::open(alloc, medium, 2) else {
-        return None;
-    };
-    for _ in 0..2 {
-        if store(&mut ring).is_some() {
-            return None;
-        }
+    if stores(&mut ring, 2) {
+        Some(ring)
+    } else {
+        None
     }
-    Some(ring)
 }
 
 // Whether the records that are held were released.
@@ -195,13 +239,10 @@ fn releases(ring: &mut Ring<MemoryMedium>) -> bool {
     !batch.is_empty() && ring.release(batch.as_slice()).is_ok()
 }
 
-// Releases two records over a medium of which one call fails, and, where that was in the release, once more when the ring was
-// opened again: how it went, and how many were held between.
-fn failing_release(alloc: Global, call: u64) -> (&'static str, u16) {
-    let Some(mut ring) = two_held(alloc, call) else {
-        return ("not stored", 0);
-    };
-    if releases(&mut ring) {
+// Releases two records, and, where a call of that failed, once more when the ring was opened again: how it went, and how many
+// were held between.
+fn release_twice(ring: &mut Ring<MemoryMedium>) -> (&'static str, u16) {
+    if releases(ring) {
         return ("released", 0);
     }
     if !ring.is_down() {
@@ -211,31 +252,39 @@ fn failing_release(alloc: Global, call: u64) -> (&'static str, u16) {
         return ("not opened", 0);
     };
     let held = ring.held();
-    if held > 0 && !releases(&mut ring) {
+    if held > 0 && !releases(ring) {
         return ("not released", held);
     }
     ("failed", held)
 }
 
+// The same over a medium of which one call fails.
+fn failing_release(alloc: Global, call: u64) -> (&'static str, u16) {
+    match two_held(alloc, call) {
+        Some(mut ring) => release_twice(&mut ring),
+        None => ("not stored", 0),
+    }
+}
+
 #[test]
 fn each_call_of_a_release_fails_in_turn(rt: HostRuntime) -> Result<(), Fail> {
-    assert_eq!(rt; failing_release(rt.alloc(), 11), ("not stored", 0));
-    for (call, held) in [(12, 2), (13, 1), (14, 0)] {
-        assert_eq!(rt; failing_release(rt.alloc(), call), ("failed", held));
-    }
-    assert_eq!(rt; failing_release(rt.alloc(), 15), ("released", 0));
+    let alloc = rt.alloc();
+    assert!(rt; failing_release(alloc, 11) == ("not stored", 0));
+    assert!(rt; failing_release(alloc, 12) == ("failed", 2));
+    assert!(rt; failing_release(alloc, 13) == ("failed", 1));
+    assert!(rt; failing_release(alloc, 14) == ("failed", 0));
+    assert!(rt; failing_release(alloc, 15) == ("released", 0));
     Ok(())
 }
 
 // A ring of three slots, all of them open.
 fn filled(alloc: Global) -> Option<Ring<MemoryBench>> {
     let mut ring = formatted(alloc, 3)?;
-    for _ in 0..3 {
-        if store(&mut ring).is_some() {
-            return None;
-        }
+    if stores(&mut ring, 3) {
+        Some(ring)
+    } else {
+        None
     }
-    Some(ring)
 }
 
 // The ring of three slots once its power came back.
@@ -250,9 +299,10 @@ fn powered_up(alloc: Global, ring: Ring<MemoryBench>) -> Option<Ring<MemoryBench
     }
 }
 
-// A power loss at the third gate of a batch of three: whether the release failed, and how many are held afterwards.
-fn release_cut(alloc: Global, tear: Tear) -> Option<(bool, u16)> {
-    let mut ring = powered_up(alloc, filled(alloc)?)?;
+// Whether a release fails that loses its power at the third gate.
+fn cut_release(ring: &mut Ring<MemoryBench>, tear: Tear) -> Option<bool>
+    requires unarmed { ring.old.medium.left ≡ unlimited }
+{
     if ring.is_down() {
         return None;
     }
@@ -261,44 +311,60 @@ fn release_cut(alloc: Global, tear: Tear) -> Option<(bool, u16)> {
         return None;
     }
     ring.arm(2, tear);
-    let failed = ring.release(batch.as_slice()).is_err();
+    Some(ring.release(batch.as_slice()).is_err())
+}
+
+// A power loss at the third gate of a batch of three: whether the release failed, and how many are held afterwards.
+fn release_cut(alloc: Global, tear: Tear) -> Option<(bool, u16)> {
+    let mut ring = powered_up(alloc, filled(alloc)?)?;
+    let failed = cut_release(&mut ring, tear)?;
     Some((failed, held_after_restart(alloc, ring, 3)))
 }
 
 #[test]
 fn a_power_loss_inside_a_release(rt: HostRuntime) -> Result<(), Fail> {
-    assert_eq!(rt; release_cut(rt.alloc(), Tear::New), Some((true, 0)));
-    assert_eq!(rt; release_cut(rt.alloc(), Tear::Keep), Some((true, 3)));
+    let alloc = rt.alloc();
+    assert!(rt; release_cut(alloc, Tear::New) == Some((true, 0)));
+    assert!(rt; release_cut(alloc, Tear::Keep) == Some((true, 3)));
     Ok(())
+}
+
+// Makes room in a ring; how many are held then.
+fn makes_room(ring: &mut Ring<MemoryBench>) -> Option<u16> {
+    if ring.is_down() {
+        return None;
+    }
+    match ring.make_room() {
+        Ok(()) => Some(ring.held()),
+        Err(_) => None,
+    }
+}
+
+// The gate of each of three slots, and the last byte of the sequence of the last two.
+fn gates(bytes: &[u8]) -> Option<[u8; 5]> {
+    if bytes.len() != 816 {
+        return None;
+    }
+    Some([bytes[0], bytes[272], bytes[282], bytes[544], bytes[554]])
 }
 
 // Room in a full ring: how many are held, and the gate and the sequence's last byte of each slot.
 fn room_made(alloc: Global) -> Option<(u16, [u8; 5])> {
     let mut ring = filled(alloc)?;
-    if ring.is_down() {
-        return None;
-    }
-    ring.make_room().ok()?;
-    let held = ring.held();
+    let held = makes_room(&mut ring)?;
     let bench = ring.into_medium();
-    let bytes = bench.content();
-    if bytes.len() != 816 {
-        return None;
-    }
-    Some((
-        held,
-        [bytes[0], bytes[272], bytes[282], bytes[544], bytes[554]],
-    ))
+    let gates = gates(bench.content())?;
+    Some((held, gates))
 }
 
 #[test]
 fn a_full_ring_makes_room(rt: HostRuntime) -> Result<(), Fail> {
-    assert_eq!(rt; room_made(rt.alloc()), Some((2, [0, 0xa5, 1, 0xa5, 2])));
+    assert!(rt; room_made(rt.alloc()) == Some((2, [0, 0xa5, 1, 0xa5, 2])));
     Ok(())
 }
 
-// Whether a record is refused where the sequence of an open slot is the last one.
-fn spends_the_sequence(alloc: Global) -> Option<bool> {
+// Two slots, of which the second is open and has the last sequence.
+fn with_the_last_sequence(alloc: Global) -> Option<Vec<u8>> {
     let Ok(mut bytes) = vec![in alloc; 0u8; 544] else {
         return None;
     };
@@ -312,14 +378,31 @@ fn spends_the_sequence(alloc: Global) -> Option<bool> {
     for i in 276..283 {
         bytes[i] = 0xff;
     }
-    let medium = MemoryMedium::new(alloc, &bytes, &[]).ok()?;
-    let mut ring = Ring::open(alloc, medium, 2).ok()?;
+    Some(bytes)
+}
+
+// A ring of two slots over a medium of these bytes.
+fn ring_of(alloc: Global, bytes: &[u8]) -> Option<Ring<MemoryMedium>> {
+    let Ok(medium) = MemoryMedium::new(alloc, bytes, &[]) else {
+        return None;
+    };
+    match Ring::open(alloc, medium, 2) {
+        Ok(ring) => Some(ring),
+        Err(_) => None,
+    }
+}
+
+// Whether a record is refused where the sequence of an open slot is the last one.
+fn spends_the_sequence(ring: &mut Ring<MemoryMedium>) -> bool {
     let last = ring.next_seq() == 1 << 63;
-    Some(last && store(&mut ring) == Some(PutFault::SeqSpent) && !ring.is_down())
+    last && store(ring) == Some(PutFault::SeqSpent) && !ring.is_down()
 }
 
 #[test]
 fn a_spent_sequence_is_refused(rt: HostRuntime) -> Result<(), Fail> {
-    assert_eq!(rt; spends_the_sequence(rt.alloc()), Some(true));
+    let alloc = rt.alloc();
+    let bytes = with_the_last_sequence(alloc).ok_or("ample memory")?;
+    let mut ring = ring_of(alloc, &bytes).ok_or("a ring")?;
+    assert!(rt; spends_the_sequence(&mut ring));
     Ok(())
 }

@@ -34,6 +34,19 @@ fn bytes_of(alloc: Global, text: &str) -> Option<Vec<u8>> {
     Some(bytes)
 }
 
+// A reader of a stream up, at its login or behind it.
+fn reader(alloc: Global, after_login: bool) -> Option<Up> {
+    let up = if after_login {
+        Up::frames(alloc)
+    } else {
+        Up::new(alloc)
+    };
+    match up {
+        Ok(up) => Some(up),
+        Err(_) => None,
+    }
+}
+
 // The frame of a body that is judged whole.
 fn framed(body: &[u8]) -> Option<ArrayVec<u8, 1280>> {
     if body.len() > 1268 {
@@ -47,21 +60,25 @@ fn framed(body: &[u8]) -> Option<ArrayVec<u8, 1280>> {
     Some(out)
 }
 
+// Whether a body's frame is this one.
+fn is_framed(body: &[u8], frame: &[u8]) -> bool {
+    match framed(body) {
+        Some(again) => again.as_slice() == frame,
+        None => false,
+    }
+}
+
 // Whether a frame is read whole, with this head, lends its body, and is written again as it was.
 fn is_example(alloc: Global, text: &str, codec: Codec, count: u8) -> bool {
     let Some(frame) = bytes_of(alloc, text) else {
         return false;
     };
-    let Ok(mut up) = Up::frames(alloc) else {
+    let Some(mut up) = reader(alloc, true) else {
         return false;
     };
-    let (n, item) = up.push(&frame);
-    let Some(again) = framed(up.body()) else {
-        return false;
-    };
-    n == frame.len()
-        && item == UpItem::Packet(PacketHead { codec, count })
-        && again.as_slice() == frame.as_slice()
+    let packet = PacketHead { codec, count };
+    answer(&mut up, &frame) == Some((frame.len(), UpItem::Packet(packet), 0))
+        && is_framed(up.body(), &frame)
 }
 
 #[test]
@@ -81,33 +98,34 @@ fn answer(up: &mut Up, piece: &[u8]) -> Option<(usize, UpItem, u32)> {
     Some((n, item, up.have()))
 }
 
-// A login, and a frame in two pieces of 20 bytes and the rest.
-fn login_and_frame(alloc: Global) -> Option<[(usize, UpItem, u32); 3]> {
-    let login = bytes_of(alloc, LOGIN)?;
-    let frame = bytes_of(alloc, CODEC_8)?;
-    let Ok(mut up) = Up::new(alloc) else {
-        return None;
-    };
+// Whether a frame is read in two pieces, of 20 bytes and the rest.
+fn is_read_in_two(up: &mut Up, frame: &[u8]) -> bool {
     if frame.len() < 20 {
-        return None;
+        return false;
     }
-    let first = answer(&mut up, &login)?;
-    let second = answer(&mut up, &frame[..20])?;
-    let third = answer(&mut up, &frame[20..])?;
-    Some([first, second, third])
-}
-
-#[test]
-fn a_login_and_a_frame_in_two_pieces(rt: HostRuntime) -> Result<(), Fail> {
-    let imei = Imei::from_digits(b"356307042441013").ok_or("15 digits")?;
+    let (front, back) = frame.split_at(20);
     let packet = PacketHead {
         codec: Codec::C8,
         count: 1,
     };
-    let answers = login_and_frame(rt.alloc()).ok_or("three answers")?;
-    assert_eq!(rt; answers[0], (17, UpItem::Login(imei), 0));
-    assert_eq!(rt; answers[1], (20, UpItem::More, 20));
-    assert_eq!(rt; answers[2], (46, UpItem::Packet(packet), 0));
+    answer(up, front) == Some((20, UpItem::More, 20))
+        && answer(up, back) == Some((46, UpItem::Packet(packet), 0))
+}
+
+// Whether a login is read.
+fn is_login(up: &mut Up, login: &[u8], imei: Imei) -> bool {
+    answer(up, login) == Some((17, UpItem::Login(imei), 0))
+}
+
+#[test]
+fn a_login_and_a_frame_in_two_pieces(rt: HostRuntime) -> Result<(), Fail> {
+    let alloc = rt.alloc();
+    let imei = Imei::from_digits(b"356307042441013").ok_or("15 digits")?;
+    let login = bytes_of(alloc, LOGIN).ok_or("hex")?;
+    let frame = bytes_of(alloc, CODEC_8).ok_or("hex")?;
+    let mut up = reader(alloc, false).ok_or("ample memory")?;
+    assert!(rt; is_login(&mut up, &login, imei));
+    assert!(rt; is_read_in_two(&mut up, &frame));
     Ok(())
 }
 
@@ -137,12 +155,7 @@ fn is_broken(
     taken: usize,
 ) -> bool {
     for cut in 0..bytes.len() + 1 {
-        let up = if after_login {
-            Up::frames(alloc)
-        } else {
-            Up::new(alloc)
-        };
-        let Ok(mut up) = up else {
+        let Some(mut up) = reader(alloc, after_login) else {
             return false;
         };
         if in_two(&mut up, bytes, cut) != (UpItem::Broken(Fault { kind, place }), taken) {
@@ -247,29 +260,34 @@ fn down_answer(down: &mut Down, text: &str, alloc: Global) -> Option<(usize, Dow
     Some(down.push(&bytes))
 }
 
+// Whether a reader of a stream down takes so many bytes of a text, and answers this.
+fn tells(alloc: Global, down: &mut Down, text: &str, taken: usize, item: DownItem) -> bool {
+    down_answer(down, text, alloc) == Some((taken, item))
+}
+
 #[test]
 fn answers_and_counts(rt: HostRuntime) -> Result<(), Fail> {
     let alloc = rt.alloc();
     let mut down = Down::new();
-    assert_eq!(rt;
-        down_answer(&mut down, "0100000001", alloc),
-        Some((1, DownItem::Login(1)))
-    );
-    assert_eq!(rt;
-        down_answer(&mut down, "00000001", alloc),
-        Some((4, DownItem::Count(1)))
-    );
-    assert_eq!(rt;
-        down_answer(&mut down, "0000", alloc),
-        Some((2, DownItem::More))
-    );
-    assert_eq!(rt; down.have(), 2);
-    assert_eq!(rt;
-        down_answer(&mut down, "00ff00", alloc),
-        Some((2, DownItem::Count(255)))
-    );
+    assert!(rt; tells(alloc, &mut down, "0100000001", 1, DownItem::Login(1)));
+    assert!(rt; tells(alloc, &mut down, "00000001", 4, DownItem::Count(1)));
+    assert!(rt; tells(alloc, &mut down, "0000", 2, DownItem::More));
+    assert!(rt; down.have() == 2);
+    assert!(rt; tells(alloc, &mut down, "00ff00", 2, DownItem::Count(255)));
     assert!(rt; down.body().is_empty());
     Ok(())
+}
+
+// Whether a stream of answers down is broken with this fault.
+fn is_broken_down(alloc: Global, text: &str, kind: FaultKind, place: u32, taken: usize) -> bool {
+    let mut down = Down::answers();
+    tells(
+        alloc,
+        &mut down,
+        text,
+        taken,
+        DownItem::Broken(Fault { kind, place }),
+    ) && down.failed()
 }
 
 #[test]
@@ -281,13 +299,7 @@ fn first_faults_down(rt: HostRuntime) -> Result<(), Fail> {
         ("00000000000004f408", FaultKind::UnknownCodec, 8, 9),
     ];
     for (text, kind, place, taken) in rows {
-        let mut down = Down::answers();
-        let broken = DownItem::Broken(Fault { kind, place });
-        assert_eq!(rt;
-            down_answer(&mut down, text, rt.alloc()),
-            Some((taken, broken))
-        );
-        assert!(rt; down.failed());
+        assert!(rt; is_broken_down(rt.alloc(), text, kind, place, taken));
     }
     Ok(())
 }
@@ -318,7 +330,7 @@ fn long_frame(alloc: Global) -> Result<Vec<u8>, AllocError> {
 }
 
 // What was told of some bytes: how many steps they took, how many logins and packets came, and how many records.
-#[derive(Clone, Copy, Debug, PartialEq, Eq)]
+#[derive(Clone, Copy, PartialEq, Eq)]
 struct Told {
     steps: usize,
     logins: u32,
@@ -390,23 +402,20 @@ fn long_stream<L: Ledger>(alloc: Global, blank: Blank) -> Option<Told>
 #[test]
 fn a_million_bytes_one_by_one(rt: HostRuntime) -> Result<(), Fail> {
     let told = long_stream::<Brand>(rt.alloc(), Blank::new(1)).ok_or("ample memory")?;
-    assert_eq!(rt;
-        told,
-        Told {
-            steps: 1_040_657,
-            logins: 1,
-            packets: 16,
-            records: 16 * 255,
-        }
-    );
+    let wanted = Told {
+        steps: 1_040_657,
+        logins: 1,
+        packets: 16,
+        records: 16 * 255,
+    };
+    assert!(rt; told == wanted);
     Ok(())
 }
 
 #[test]
 fn a_written_login_is_read(rt: HostRuntime) -> Result<(), Fail> {
     let imei = Imei::from_digits(b"356307042441013").ok_or("15 digits")?;
-    let mut up = Up::new(rt.alloc()).map_err(|_| "ample memory")?;
-    let login = write_login(imei);
-    assert_eq!(rt; answer(&mut up, &login), Some((17, UpItem::Login(imei), 0)));
+    let mut up = reader(rt.alloc(), false).ok_or("ample memory")?;
+    assert!(rt; is_login(&mut up, &write_login(imei), imei));
     Ok(())
 }
