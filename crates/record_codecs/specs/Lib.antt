@@ -1,6 +1,7 @@
 pub mod BodyCursor
 pub mod Elements
 pub mod Machines
+pub mod PartWalk
 pub mod RecordCursor
 pub mod Shown
 pub mod SomeRecord

@@ -8,6 +8,7 @@ mod elements;
 mod in_record;
 mod machine;
 mod number;
+mod part_walk;
 mod reading;
 mod record;
 mod record_iter;
