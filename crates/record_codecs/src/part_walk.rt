@@ -36,6 +36,10 @@ fn skip(bytes: &[u8], n: u64) -> Option<&[u8]>
 fn take_number(bytes: &[u8], width: Width) -> Option<(u64, &[u8])>
     ensures { MatchOption result (length bytes.now < bytes_of width) (λ taken. (bytes_of width ≤ length bytes.now) × (taken.0 ≡ front_number width bytes.now) × (taken.1.now ≡ behind width bytes.now)) }
 {
+    if let Width::W1 = width {
+        let (byte, rest) = bytes.split_first()?;
+        return Some((u64::from(*byte), rest));
+    }
     let width = width.bytes() as usize;
     if width > bytes.len() {
         return None;
