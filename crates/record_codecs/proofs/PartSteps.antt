@@ -170,7 +170,7 @@ past_text n id len rows bytes text rest size past h is =
     let more = triples (n - 1) id len rows in
     and_on (triples n id len rows) (any size more) more bytes text rest past (past_any size more text rest h is)
 
--- A count, by its rule.
+-- An answer that is none.
 
 pub at_none : {X : Type 0} (o : Option X) (P : Type 0) (Q : X → Type 0) → o ≡ None → P → MatchOption o P Q
 at_none None P Q is p = p
