@@ -1,19 +1,16 @@
--- A record's cursor over bytes: each field on the way to the record's end or to a rule that fails.
-use Rattle.std.proofs.Common.{◌≡◌, ℕ, ◌+◌, ◌*◌, ◌<◌, ◌≤◌, List, [], ◌∷◌, length, take, drop, Option, Some, None, Ok, Err, refl, sym, ap, subst, ◌∙◌, arith, length-take, length-drop}
+-- A field's value and its width, and the record at the front of bytes.
+use Rattle.std.proofs.Common.{◌≡◌, ℕ, ◌<◌, ◌≤◌, List, [], ◌∷◌, length, take, drop, Some, refl, sym, ap, subst, ◌∙◌, arith}
 use Rattle.std.proofs.Math.Seq.{take-length}
 use Rattle.std.proofs.lemmas.List.{append-nil}
 use Rattle.avl_values.specs.Width.{bytes_of}
 use Rattle.avl_values.specs.declared.codec.Codec.{Codec}
 use Rattle.avl_values.specs.declared.width.Width.{Width}
 use Rattle.avl_values.specs.declared.width.Width.TheVariants.{W1, W2, W4, W8}
-use Rattle.avl_values.specs.declared.fault.FaultKind.{FaultKind}
 use Rattle.layout.specs.Bytes.{AreBytes}
-use Rattle.layout.specs.Rows.{Rows, Verdict, judge, short, fault, whole, Fills}
+use Rattle.layout.specs.Rows.{Verdict, judge, short, fault, whole, Fills}
 use Rattle.layout.proofs.RowLaws.{filled}
 use Rattle.layout.specs.Fields.{number}
 use Rattle.layout.specs.Next.{width_of}
-use Rattle.layout.proofs.Judging.{judge_done}
-use Rattle.layout.proofs.Stepping.{step_short, step_on, step_fault}
 use Rattle.record_layout.specs.declared.part.Part.{Part}
 use Rattle.record_layout.specs.declared.part.Part.TheVariants.{Plain, Total, Pairs, Triples}
 use Rattle.record_layout.specs.RecordRows.{lone_record, parts_rows}
@@ -25,39 +22,10 @@ use Rattle.record_layout.specs.SomeRecord.{IsSomeRecord}
 use Rattle.record_layout.proofs.ReadLaws.{first_is}
 use Rattle.record_layout.proofs.RecordFills.{lone_take}
 use Rattle.record_codecs.proofs.Turns.{part_width}
-use Rattle.record_codecs.specs.RecordCursor.{rows_in, rows_from, nothing, FollowsIn, Reads, weight_in}
-
--- what is left of the record is judged from here on
-abbrev pub JudgedIn : Codec → List ℕ → InRecord → ℕ → List ℕ → Type 0
-JudgedIn codec bytes at place rest = judge (lone_record codec) 0 bytes ≡ judge (rows_in at) place rest
-
-pub missing_in : (codec : Codec) (bytes : List ℕ) (at : InRecord) (place w : ℕ) (rest : List ℕ) → JudgedIn codec bytes at place rest → width_of (rows_in at) ≡ Some w → length rest < w → None ≡ first_record codec bytes
-missing_in codec bytes at place w rest judged width few = sym (ap end_of (judged ∙ step_short (rows_in at) w place rest width few))
+use Rattle.record_codecs.specs.RecordCursor.{rows_in, nothing, Reads, weight_in}
 
 pub front_reads : (w value : ℕ) (rest field : List ℕ) → field ≡ take w rest → (length field ≤ 8 → value ≡ number field) → Reads (take w rest) value
 front_reads w value rest field front reads small = let e : length field ≡ length (take w rest) = ap length front in sym (reads (omega arith) ∙ ap number front)
-
-pub front_width : (rows : Rows (Unit {0})) (w : ℕ) (rest : List ℕ) → width_of rows ≡ Some w → w ≤ length rest → Some (length (take w rest)) ≡ width_of rows
-front_width rows w rest width fits = let n : length (take w rest) ≡ w = omega (arith, length-take w rest) in ap (λ k. Some k) n ∙ sym width
-
-pub failed_in : (codec : Codec) (bytes : List ℕ) (at : InRecord) (place w : ℕ) (rest : List ℕ) (kind : FaultKind) → JudgedIn codec bytes at place rest → width_of (rows_in at) ≡ Some w → w ≤ length rest
-    → FollowsIn (rows_in at) (take w rest) (Err kind) → None ≡ first_record codec bytes
-failed_in codec bytes at place w rest kind judged width fits fails = sym (ap end_of (judged ∙ step_fault (rows_in at) w place kind rest width fits fails))
-
-pub judged_from : (codec : Codec) (bytes : List ℕ) (at : InRecord) (place w : ℕ) (rest back : List ℕ) (next : Option InRecord) → JudgedIn codec bytes at place rest → width_of (rows_in at) ≡ Some w → w ≤ length rest
-    → FollowsIn (rows_in at) (take w rest) (Ok next) → back ≡ drop w rest → judge (lone_record codec) 0 bytes ≡ judge (rows_from next) (place + w) back
-judged_from codec bytes at place w rest back next judged width fits follows is =
-    judged ∙ step_on (rows_in at) w place rest width fits follows.0 ∙ ap (λ r. judge r (place + w) (drop w rest)) follows.1 ∙ ap (λ b. judge (rows_from next) (place + w) b) (sym is)
-
-pub ended_in : (codec : Codec) (bytes : List ℕ) (place : ℕ) (back : List ℕ) → judge (lone_record codec) 0 bytes ≡ judge nothing place back → Some place ≡ first_record codec bytes
-ended_in codec bytes place back judged = sym (ap end_of (judged ∙ judge_done (tt {0}) place back))
-
--- the measure falls
-pub falls_in : (at next : InRecord) (w : ℕ) (rest back : List ℕ) → w ≤ length rest → back ≡ drop w rest → (w ≡ 0 → weight_in at ≡ 1) → weight_in next + weight_in at ≤ 1 → 2 * length back + weight_in next < 2 * length rest + weight_in at
-falls_in at next w rest back fits is none turns =
-    let n = length-drop w rest in
-    let e = ap length is in
-    grind (arith)
 
 -- only a field of no bytes has weight
 pub none_is : (n : ℕ) → 0 < n → Some n ≡ Some 0 → ⊥

@@ -45,7 +45,7 @@ value_is r p field value width reads =
 
 -- The rule at a count.
 
-rule_passes : (rule : Option FaultKind) (n counted : ℕ) → Some counted ≡ some_unless rule n → (rule ≡ None) × (counted ≡ n)
+pub rule_passes : (rule : Option FaultKind) (n counted : ℕ) → Some counted ≡ some_unless rule n → (rule ≡ None) × (counted ≡ n)
 rule_passes None n counted e = (refl, cc)
 rule_passes (Some kind) n counted e = absurd (cc)
 
@@ -53,7 +53,7 @@ unless_fails : (b : Bool) (n : ℕ) → None ≡ some_unless (fault_unless b Tot
 unless_fails true n e = absurd (cc)
 unless_fails false n e = refl
 
-rule_fails : (ps : List Part) (total n : ℕ) → None ≡ counted_with ps total n → count_rule ps total n ≡ Some TotalMismatch
+pub rule_fails : (ps : List Part) (total n : ℕ) → None ≡ counted_with ps total n → count_rule ps total n ≡ Some TotalMismatch
 rule_fails [] total n e = unless_fails (n == total) n e
 rule_fails (p ∷ ps) total n e = unless_fails (not (nat_lt total n)) n e
 

@@ -2,6 +2,7 @@ pub mod BodyCursor
 pub mod Elements
 pub mod FrontRecords
 pub mod Machines
+pub mod PartWalk
 pub mod RecordCursor
 pub mod Shown
 pub mod SomeRecord

@@ -7,6 +7,7 @@ mod cursor;
 mod elements;
 mod in_record;
 mod machine;
+mod part_walk;
 mod reading;
 mod record;
 mod record_iter;
