@@ -145,24 +145,23 @@ fn the_file_of_one_record(rt: HostRuntime) -> Result<(), Fail> {
     Ok(())
 }
 
-// The places of the last of several packets.
+// The places of the last of several packets, and how many records are listed.
 fn admit_all(
     alloc: Global,
     shelf: &mut Shelf<MemoryMedium>,
     packets: &[(u64, &[u8])],
-) -> Option<(u8, u64, u64)> {
+) -> Option<((u8, u64, u64), usize)> {
     let mut last = (0, 99, 99);
     for (device, times) in packets {
         last = places(admit(alloc, shelf, *device, *times))?;
     }
-    Some(last)
+    Some((last, shelf.list().len()))
 }
 
-// The places of the last packet on a medium that was empty, and how many records are listed.
+// The same over a medium that was empty.
 fn listed(alloc: Global, packets: &[(u64, &[u8])]) -> Option<((u8, u64, u64), usize)> {
     let mut shelf = over_nothing(alloc, 12)?;
-    let last = admit_all(alloc, &mut shelf, packets)?;
-    Some((last, shelf.list().len()))
+    admit_all(alloc, &mut shelf, packets)
 }
 
 // A packet that has a record twice, and one of two records.
@@ -216,17 +215,24 @@ fn two_places(shelf: &Shelf<MemoryMedium>, imei: Imei) -> Option<(u64, u64)> {
     }
 }
 
-// The example admitted twice, over a medium whose first call behind the first time fails: what the second time answered, how
-// many records are listed, and the device's places.
-fn example_twice(alloc: Global) -> Option<((u8, u64, u64), usize, (u64, u64))> {
+// The example admitted twice: what the second time answered, how many records are listed, and the device's places.
+fn admit_example(
+    alloc: Global,
+    shelf: &mut Shelf<MemoryMedium>,
+) -> Option<((u8, u64, u64), usize, (u64, u64))> {
     let imei = Imei::from_number(DEVICE)?;
     let Ok(bytes) = decode(alloc, CODEC_16.as_bytes()) else {
         return None;
     };
-    let mut shelf = over_nothing(alloc, 8)?;
-    let again = admit_twice(&mut shelf, imei, &bytes)?;
-    let found = two_places(&shelf, imei)?;
+    let again = admit_twice(shelf, imei, &bytes)?;
+    let found = two_places(shelf, imei)?;
     Some((again, shelf.list().len(), found))
+}
+
+// The same over a medium whose first call behind the first time fails.
+fn example_twice(alloc: Global) -> Option<((u8, u64, u64), usize, (u64, u64))> {
+    let mut shelf = over_nothing(alloc, 8)?;
+    admit_example(alloc, &mut shelf)
 }
 
 #[test]
@@ -235,14 +241,19 @@ fn an_example_again_makes_no_call_of_the_medium(rt: HostRuntime) -> Result<(), F
     Ok(())
 }
 
-// How many devices a shelf of three records has, and the places of one of them.
-fn devices(alloc: Global) -> Option<(u64, (u64, u64))> {
+// How many devices a shelf has once three records of two devices were admitted, and the places of one of them.
+fn admit_two_devices(alloc: Global, shelf: &mut Shelf<MemoryMedium>) -> Option<(u64, (u64, u64))> {
     let imei = Imei::from_number(DEVICE)?;
-    let mut shelf = over_nothing(alloc, 12)?;
     let packets: [(u64, &[u8]); 2] = [(DEVICE, &[0x30, 0x31]), (OTHER, &[0x30])];
-    admit_all(alloc, &mut shelf, &packets)?;
-    let found = two_places(&shelf, imei)?;
+    admit_all(alloc, shelf, &packets)?;
+    let found = two_places(shelf, imei)?;
     Some((shelf.devices(), found))
+}
+
+// The same over an empty medium.
+fn devices(alloc: Global) -> Option<(u64, (u64, u64))> {
+    let mut shelf = over_nothing(alloc, 12)?;
+    admit_two_devices(alloc, &mut shelf)
 }
 
 #[test]
@@ -272,10 +283,15 @@ fn torn(alloc: Global, calls: u64, tear: Tear) -> Option<Shelf<MemoryBench>> {
     Some(shelf)
 }
 
-// How many records a shelf lists after a restart of its bench, or 97 where it can't be opened.
-fn listed_after_restart(alloc: Global, shelf: Shelf<MemoryBench>) -> usize {
+// The bench of a shelf once its power came back.
+fn restarted(shelf: Shelf<MemoryBench>) -> MemoryBench {
     let mut bench = shelf.into_medium();
     bench.restart();
+    bench
+}
+
+// How many records a shelf over this bench lists, or 97 where it can't be opened.
+fn listed_on(alloc: Global, bench: MemoryBench) -> usize {
     match Shelf::open(alloc, bench) {
         Ok(shelf) => shelf.list().len(),
         Err(_) => 97,
@@ -285,7 +301,7 @@ fn listed_after_restart(alloc: Global, shelf: Shelf<MemoryBench>) -> usize {
 // A power loss inside the first admit after so many calls: how many records are listed after the restart.
 fn cut(alloc: Global, calls: u64, tear: Tear) -> usize {
     match torn(alloc, calls, tear) {
-        Some(shelf) => listed_after_restart(alloc, shelf),
+        Some(shelf) => listed_on(alloc, restarted(shelf)),
         None => 99,
     }
 }

@@ -1,5 +1,6 @@
 ghost use Rattle.std.specs.Prelude.{◌≡◌, ◌≤◌, false, IfSome};
 ghost use Rattle.medium.specs.CallsLeft.{unlimited};
+ghost use Rattle.medium.specs.Memory.{bench_state};
 ghost use Rattle.record_codecs.specs.SomeRecord.{IsSomeRecord};
 
 use avl_values::{Codec, Rec};
@@ -52,13 +53,20 @@ fn store<M: Medium>(ring: &mut Ring<M>) -> Option<PutFault> {
     ring.put(&rec).err()
 }
 
-// How many records are held after a restart of the ring's bench, or 99 where it can't be opened.
-fn held_after_restart(alloc: Global, ring: Ring<MemoryBench>, slots: u16) -> u16
-    requires some { 1 ≤ slots }
-    requires few { slots ≤ 4096 }
+// The bench of a ring once its power came back.
+fn restarted(ring: Ring<MemoryBench>) -> MemoryBench
+    ensures unarmed { (bench_state result).left ≡ unlimited }
 {
     let mut bench = ring.into_medium();
     bench.restart();
+    bench
+}
+
+// How many records are held on a bench, or 99 where it can't be opened.
+fn held_on(alloc: Global, bench: MemoryBench, slots: u16) -> u16
+    requires some { 1 ≤ slots }
+    requires few { slots ≤ 4096 }
+{
     match Ring::open(alloc, bench, slots) {
         Ok(ring) => ring.held(),
         Err(_) => 99,
@@ -76,7 +84,7 @@ fn torn(alloc: Global, calls: u64, tear: Tear) -> Option<(bool, Ring<MemoryBench
 // A power loss inside a `put` into 16 slots after so many calls: whether it was stored, and how many are held afterwards.
 fn put_cut(alloc: Global, calls: u64, tear: Tear) -> (bool, u16) {
     match torn(alloc, calls, tear) {
-        Some((stored, ring)) => (stored, held_after_restart(alloc, ring, 16)),
+        Some((stored, ring)) => (stored, held_on(alloc, restarted(ring), 16)),
         None => (false, 98),
     }
 }
@@ -291,9 +299,7 @@ fn filled(alloc: Global) -> Option<Ring<MemoryBench>> {
 fn powered_up(alloc: Global, ring: Ring<MemoryBench>) -> Option<Ring<MemoryBench>>
     ensures unarmed { IfSome result (λ r. r.medium.left ≡ unlimited) }
 {
-    let mut bench = ring.into_medium();
-    bench.restart();
-    match Ring::open(alloc, bench, 3) {
+    match Ring::open(alloc, restarted(ring), 3) {
         Ok(ring) => Some(ring),
         Err(_) => None,
     }
@@ -318,7 +324,7 @@ fn cut_release(ring: &mut Ring<MemoryBench>, tear: Tear) -> Option<bool>
 fn release_cut(alloc: Global, tear: Tear) -> Option<(bool, u16)> {
     let mut ring = powered_up(alloc, filled(alloc)?)?;
     let failed = cut_release(&mut ring, tear)?;
-    Some((failed, held_after_restart(alloc, ring, 3)))
+    Some((failed, held_on(alloc, restarted(ring), 3)))
 }
 
 #[test]
