@@ -2,8 +2,9 @@
 """Judges data bodies of about 32,600 and 64,800 bytes over and over, and shows the speed and the ratio of the times.
 
 Usage: bench/codecs.py [PROGRAM]; PROGRAM is the built codec_bench, crates/codec_bench/out/codec_bench by default (`rt run` in its
-folder builds it). The records have as many elements of one byte as fit, so that nearly each byte is a field of its own.
-Wanted: 20 MB/s or more on one core, and about twice the time for twice the bytes.
+folder builds it). The records have as many elements of one byte as fit. A whole body is gone over part by part, all elements of a
+group at once, so that its time is that of its records. Wanted: 20 MB/s or more on one core, and at most twice the time for twice the
+bytes.
 """
 from measure import best, program, times
 

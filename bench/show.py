@@ -9,7 +9,7 @@ import os, shutil, subprocess, tempfile
 from measure import TOP, best, program, times
 
 PROGRAM = program("fmb_program")
-RUNS = 5
+RUNS = 9
 RECORDS = 200
 MOST = 2 ** 24
 
