@@ -41,11 +41,18 @@ def run(command, given="", out=None):
     return Spent(elapsed, usage.ru_utime, usage.ru_utime + usage.ru_stime, usage.ru_maxrss / 1024, os.waitstatus_to_exitcode(status), said)
 
 
+def in_turn(commands, given="", runs=3):
+    """The least of each measure, for each command and the file that it prints to, over some rounds in which all run in turn, so that a
+    slow spell of the machine meets all of them. All runs end with status 0, and those of one command say the same."""
+    rounds = [[run(command, given, out) for command, out in commands] for _ in range(runs)]
+    for done in zip(*rounds):
+        assert {(r.status, r.said) for r in done} == {(0, done[0].said)}, done
+    return [Spent(*(min(measures) for measures in zip(*done))) for done in zip(*rounds)]
+
+
 def best(command, given="", out=None, runs=3):
-    """The least of each measure over some runs, which all end with status 0 and say the same."""
-    done = [run(command, given, out) for _ in range(runs)]
-    assert {(r.status, r.said) for r in done} == {(0, done[0].said)}, done
-    return Spent(*(min(measures) for measures in zip(*done)))
+    """The same of one command."""
+    return in_turn([(command, out)], given, runs)[0]
 
 
 def times(more, less):

@@ -3,10 +3,10 @@
 those of a plain Rust program that prints the same lines (bench/show_peer/main.rs, built by rustc where there is one).
 
 Usage: bench/show.py [PROGRAM]; PROGRAM is the built fmb_program, crates/fmb_program/out/fmb_program by default (`rt run` in its folder
-builds it). Wanted: at most twice the plain program's time, under 100 MB, and about twice the time for twice the bytes.
+builds it). All run in turn, so that a slow spell meets all of them. Wanted: at most twice the plain program's time, under 100 MB, and about twice the time for twice the bytes.
 """
 import os, shutil, subprocess, tempfile
-from measure import TOP, best, program, times
+from measure import TOP, in_turn, program, times
 
 PROGRAM = program("fmb_program")
 RUNS = 9
@@ -52,18 +52,22 @@ with tempfile.TemporaryDirectory() as folder:
     def path(name):
         return os.path.join(folder, name)
 
-    seconds = []
-    for size in (MOST // 2, MOST):
+    def write(name, size):
         text, lines = capture(size)
-        with open(path("capture.fmb"), "w") as f:
+        with open(path(name), "w") as f:
             f.write(text)
-        took = best([PROGRAM, "show", path("capture.fmb")], out=path("shown"), runs=RUNS)
-        seconds.append(took.busy)
-        print(f"{len(text)} bytes, {lines} lines: {took.busy:.2f} s, {took.memory:.0f} MB, {os.path.getsize(path('shown'))} bytes printed")
-    print(f"twice the bytes take {times(seconds[1], seconds[0])} the time")
+        return len(text), lines
+
+    captures = [write("half.fmb", MOST // 2), write("whole.fmb", MOST)]
+    commands = [([PROGRAM, "show", path(name + ".fmb")], path(name + "_shown")) for name in ("half", "whole")]
     if shutil.which("rustc"):
         subprocess.run(["rustc", "-O", "-o", path("peer"), os.path.join(TOP, "bench/show_peer/main.rs")], check=True)
-        peer = best([path("peer"), path("capture.fmb")], out=path("peer_shown"), runs=RUNS).busy
-        with open(path("shown"), "rb") as ours, open(path("peer_shown"), "rb") as theirs:
+        commands.append(([path("peer"), path("whole.fmb")], path("peer_shown")))
+    half, whole, *peers = in_turn(commands, runs=RUNS)
+    for (size, lines), name, took in zip(captures, ("half", "whole"), (half, whole)):
+        print(f"{size} bytes, {lines} lines: {took.busy:.2f} s, {took.memory:.0f} MB, {os.path.getsize(path(name + '_shown'))} bytes printed")
+    print(f"twice the bytes take {times(whole.busy, half.busy)} the time")
+    for peer in peers:
+        with open(path("whole_shown"), "rb") as ours, open(path("peer_shown"), "rb") as theirs:
             same = ours.read() == theirs.read()
-        print(f"the plain program: {peer:.2f} s, {'the same bytes' if same else 'OTHER BYTES'}; ours takes {times(seconds[1], peer)} as long")
+        print(f"the plain program: {peer.busy:.2f} s, {'the same bytes' if same else 'OTHER BYTES'}; ours takes {times(whole.busy, peer.busy)} as long")
