@@ -1,6 +1,6 @@
 //! Readers of a TCP connection in any pieces: up, a login and then frames of data bodies and of responses; down, the login's
-//! answer and then counts and frames of commands. Each takes every byte once, in one step, and decides an item at the same byte
-//! however the stream is cut.
+//! answer and then counts and frames of commands. Each takes every byte once, by `push_counted` in one step, and decides an item at
+//! the same byte however the stream is cut.
 #![tactic(auto)]
 
 mod body_machine;
