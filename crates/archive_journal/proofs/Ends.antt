@@ -2,10 +2,10 @@
 use Rattle.std.proofs.Common.{◌≡◌, ◌≢◌, ◌⊎◌, inl, inr, ℕ, ◌+◌, ◌-◌, ◌<◌, ◌≤◌, ◌^◌, List, [], ◌∷◌, ◌++◌, length, get_or, take, drop, replicate, Option, Some, None, sym, ◌∙◌, ap, refl, subst, arith, length-take, length-drop}
 use Rattle.std.proofs.lemmas.Bool.{cases_eq, cases_lt}
 use Rattle.std.proofs.lemmas.List.{ext_get_or, get_or-take}
-use Rattle.medium.specs.Content.{Content, IsImage, settled, written, after_write, after_sync}
-use Rattle.medium.specs.State.{IfTold, EveryImage, TornWrite, told}
-use Rattle.medium.proofs.Images.{SameOutside, WritesWithin, image-settled, written-outside, images-written, images-torn, told-map}
-use Rattle.medium.proofs.Written.{get_or-written_there}
+use Rattle.medium_model.specs.Content.{Content, IsImage, settled, written, after_write, after_sync}
+use Rattle.medium_model.specs.State.{IfTold, EveryImage, TornWrite, told}
+use Rattle.medium_model.proofs.Images.{SameOutside, WritesWithin, image-settled, written-outside, images-written, images-torn, told-map}
+use Rattle.medium_model.proofs.Written.{get_or-written_there}
 use Rattle.archive_journal.specs.Body.{EntryValue}
 use Rattle.archive_journal.specs.Entries.{magic, size_at, entries_of}
 use Rattle.archive_journal.specs.Journal.{HoldsWith, IsTold, entries_told}

@@ -1,6 +1,6 @@
 -- A journal that is up is durable.
 use Rattle.std.proofs.Common.{◌≡◌, false}
-use Rattle.medium.specs.State.{IfTold}
+use Rattle.medium_model.specs.State.{IfTold}
 use Rattle.archive_journal.specs.Journal.{JournalView, IsDurable}
 use Rattle.archive_journal.specs.Places.{IsClosed, IsJournal}
 use Rattle.archive_journal.proofs.Appends.{closed-durable, closed-settled}

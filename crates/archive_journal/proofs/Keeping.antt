@@ -1,8 +1,8 @@
 -- Opening keeps the entries that a power loss might have left.
 use Rattle.std.proofs.Common.{◌≡◌, ℕ, ◌≤◌, List, [], length, Option, Some, None, sym, ◌∙◌, ap, refl, subst}
-use Rattle.medium.specs.Content.{Content, IsImage, after_sync}
-use Rattle.medium.specs.State.{IfTold, EveryImage, told}
-use Rattle.medium.proofs.Images.{image-settled}
+use Rattle.medium_model.specs.Content.{Content, IsImage, after_sync}
+use Rattle.medium_model.specs.State.{IfTold, EveryImage, told}
+use Rattle.medium_model.proofs.Images.{image-settled}
 use Rattle.archive_journal.specs.Body.{EntryValue}
 use Rattle.archive_journal.specs.Entries.{entries_of, IsArchive}
 use Rattle.archive_journal.specs.Journal.{HoldsWith, IsTold, KeepsEntries, entries_told}

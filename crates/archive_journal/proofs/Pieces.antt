@@ -1,8 +1,8 @@
 -- A file read piece by piece.
 use Rattle.std.proofs.Common.{◌≡◌, ℕ, ◌+◌, ◌-◌, ◌<◌, ◌≤◌, min, List, ◌++◌, length, take, drop, Option, Some, None, sym, ◌∙◌, ap, subst, arith, length-append, length-take}
 use Rattle.std.proofs.lemmas.List.{take_all, take-take, take-append-drop, drop-take}
-use Rattle.medium.specs.Content.{Content}
-use Rattle.medium.specs.State.{IfTold}
+use Rattle.medium_model.specs.Content.{Content}
+use Rattle.medium_model.specs.State.{IfTold}
 
 take-more : (m n : ℕ) (xs : List ℕ) → take m xs ++ take n (drop m xs) ≡ take (m + n) xs
 take-more m n xs =

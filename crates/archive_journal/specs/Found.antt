@@ -1,6 +1,6 @@
 -- What opening finds.
 use Rattle.std.specs.Prelude.{◌≡◌, ℕ, ◌≤◌, ◌^◌, List, length}
-use Rattle.medium.specs.Content.{Content, settled}
+use Rattle.medium_model.specs.Content.{Content, settled}
 use Rattle.archive_journal.specs.Body.{EntryValue}
 
 -- All that is read is durable, and it is this file.

@@ -1,9 +1,9 @@
 -- What contracts see of a journal, and what a power loss may leave of it, said of its entries.
 use Rattle.std.specs.Prelude.{◌≡◌, ℕ, ◌+◌, ◌≤◌, Bool, false, List, [], ◌∷◌, ◌++◌, length, Option, Some, None}
 use Rattle.avl_values.specs.Causes.{Rose}
-use Rattle.medium.specs.CallsLeft.{unlimited}
-use Rattle.medium.specs.Content.{Content, settled}
-use Rattle.medium.specs.State.{MediumState, IfTold, EveryImage, WasImage, Counted}
+use Rattle.medium_model.specs.CallsLeft.{unlimited}
+use Rattle.medium_model.specs.Content.{Content, settled}
+use Rattle.medium_model.specs.State.{MediumState, IfTold, EveryImage, WasImage, Counted}
 use Rattle.archive_journal.specs.Body.{EntryValue}
 use Rattle.archive_journal.specs.Entries.{entries_of, IsArchive}
 

@@ -1,7 +1,7 @@
 -- Where the entries stand in a file.
 use Rattle.std.specs.Prelude.{◌≡◌, ◌≢◌, ℕ, ◌+◌, ◌<◌, ◌≤◌, ◌^◌, true, false, List, [], ◌∷◌, length, get_or, take, drop}
-use Rattle.medium.specs.Content.{Content, settled}
-use Rattle.medium.specs.State.{IfTold}
+use Rattle.medium_model.specs.Content.{Content, settled}
+use Rattle.medium_model.specs.State.{IfTold}
 use Rattle.archive_journal.specs.Body.{EntryValue, entry_in}
 use Rattle.archive_journal.specs.Entries.{magic, size_at, body_at, is_entry}
 use Rattle.archive_journal.specs.Journal.{JournalView}

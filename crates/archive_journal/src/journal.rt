@@ -1,8 +1,8 @@
 ghost use Rattle.std.specs.Prelude.{◌≡◌, ◌⊎◌, ◌↔◌, ◌+◌, ◌<◌, ◌≤◌, ◌^◌, true, false, length, IfOk, IfErr, OnOk, OnErr, IsOk, IsErr, IsErrOf, IsTrue};
 ghost use Rattle.avl_values.specs.Causes.{Rose};
-ghost use Rattle.medium.specs.CallsLeft.{MayFail, after, unlimited};
-ghost use Rattle.medium.specs.Content.{after_sync};
-ghost use Rattle.medium.specs.State.{Counted, EveryImage, IfTold, told};
+ghost use Rattle.medium_model.specs.CallsLeft.{MayFail, after, unlimited};
+ghost use Rattle.medium_model.specs.Content.{after_sync};
+ghost use Rattle.medium_model.specs.State.{Counted, EveryImage, IfTold, told};
 ghost use Rattle.archive_journal.specs.Body.{entry_in, is_body};
 ghost use Rattle.archive_journal.specs.Entries.{IsArchive, entries_of};
 ghost use Rattle.archive_journal.specs.Journal.{EachHolds, HasRoom, IsDurable, IsEither, IsRun, KeepsEntries, after_body, entries_told, with_entry};
@@ -12,7 +12,7 @@ use crate::fault::ArchiveFault;
 use crate::open::open_archive;
 use crate::write::{Tail, write_entry};
 use avl_values::MediumFault;
-use medium::{Bench, Medium, ReserveError, Tear};
+use medium_model::{Bench, Medium, ReserveError, Tear};
 use std::alloc::Global;
 use std::marker::Model;
 

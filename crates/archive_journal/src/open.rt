@@ -1,7 +1,7 @@
 //! A medium taken over as an archive.
 ghost use Rattle.std.specs.Prelude.{◌≡◌, ◌≢◌, ◌+◌, ◌<◌, ◌≤◌, ◌^◌, ◌⊎◌, ◌↔◌, [], true, false, Some, take, drop, length, get_or, IfOk, OnOk, OnErr, IsErr, IsErrOf, IsTrue};
-ghost use Rattle.medium.specs.Content.{IsImage, after_sync, settled};
-ghost use Rattle.medium.specs.State.{EveryImage, IfTold, told};
+ghost use Rattle.medium_model.specs.Content.{IsImage, after_sync, settled};
+ghost use Rattle.medium_model.specs.State.{EveryImage, IfTold, told};
 ghost use Rattle.archive_journal.specs.Entries.{IsArchive, entries_of, is_entry, magic};
 ghost use Rattle.archive_journal.specs.Journal.{HoldsWith, IsRun, IsTold, KeepsEntries, entries_told};
 ghost use Rattle.archive_journal.specs.Places.{IsClosed, IsSmall, StandIn};
@@ -12,7 +12,7 @@ use crate::fault::ArchiveFault;
 use crate::walk::{read_entries, read_file};
 use crate::write::{OPEN, Tail, close_gate, write_empty};
 use avl_values::Failed;
-use medium::{Medium, ReserveError};
+use medium_model::{Medium, ReserveError};
 use std::alloc::Global;
 
 // How many bytes of the file one read asks for.

@@ -1,6 +1,6 @@
 //! A file read whole, and walked from entry to entry.
 ghost use Rattle.std.specs.Prelude.{◌≡◌, ◌<◌, ◌≤◌, ◌+◌, ◌++◌, ◌^◌, true, false, drop, length, slice_get, take, IfOk, IfSome, IfNone, OnOk, IsErrOf};
-ghost use Rattle.medium.specs.State.{Counted, IfTold};
+ghost use Rattle.medium_model.specs.State.{Counted, IfTold};
 ghost use Rattle.archive_journal.specs.Body.{entry_in};
 ghost use Rattle.archive_journal.specs.Entries.{size_at, body_at, is_entry, entries_of, magic};
 ghost use Rattle.archive_journal.specs.Journal.{CountedMaybe};
@@ -11,7 +11,7 @@ use crate::entry::{Entry, EntryList};
 use crate::fault::ArchiveFault;
 use crate::write::OPEN;
 use avl_values::NoMemory;
-use medium::Medium;
+use medium_model::Medium;
 use std::alloc::Global;
 
 const MAX_PLACE: u64 = 1 << 62;

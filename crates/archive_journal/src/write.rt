@@ -1,13 +1,13 @@
 //! The calls that write: an append, an empty archive, and the closing of a last gate.
 ghost use Rattle.std.specs.Prelude.{◌≡◌, ◌≢◌, ◌+◌, ◌++◌, ◌<◌, ◌≤◌, ◌^◌, ◌∷◌, [], true, Some, length, get_or, IfOk, OnOk, IsErr};
 ghost use Rattle.std.specs.Vec.{vec_capacity};
-ghost use Rattle.medium.specs.State.{Counted, EveryImage, IfTold};
+ghost use Rattle.medium_model.specs.State.{Counted, EveryImage, IfTold};
 ghost use Rattle.archive_journal.specs.Body.{entry_in, is_body};
 ghost use Rattle.archive_journal.specs.Journal.{HoldsWith, IsEither, IsTold, entries_told, with_entry};
 ghost use Rattle.archive_journal.specs.Places.{IsClosed, IsOpen, IsSmall};
 
 use avl_values::Failed;
-use medium::Medium;
+use medium_model::Medium;
 
 pub const OPEN: u8 = 0xa5;
 

@@ -8,8 +8,8 @@ use Rattle.std.proofs.lemmas.List.{get_or_past}
 use Rattle.avl_values.specs.Record.{Record}
 use Rattle.avl_values.specs.Codec.{is_codec}
 use Rattle.avl_values.specs.declared.codec.Codec.{Codec}
-use Rattle.flash_ring.specs.declared.order.Order.{Order}
-use Rattle.flash_ring.specs.declared.order.Order.TheVariants.{Oldest}
+use Rattle.avl_values.specs.declared.order.Order.{Order}
+use Rattle.avl_values.specs.declared.order.Order.TheVariants.{Oldest}
 use Rattle.flash_ring.specs.Entries.{Entry, goes_first, insert_in, entries_from, entries_of, rec_of, held_of, batch, batch_of, selected}
 use Rattle.flash_ring.specs.Held.{Held, closed_all, rec_at, rec_in}
 use Rattle.flash_ring.specs.Images.{MayClose, has_slot}

@@ -4,11 +4,11 @@ use Rattle.std.proofs.lemmas.Bool.{cases_lt, cases_eq, eq-eqb, false≢true}
 use Rattle.std.proofs.lemmas.Bool.Decides.{eqb_tells}
 use Rattle.std.proofs.lemmas.List.{ext_get_or, get_or_past, take_more, take_all}
 use Rattle.std.proofs.lemmas.Option.{get_or_from_slice_get, slice_get_within, slice_get-get_or, slice_get_past}
-use Rattle.medium.specs.CallsLeft.{CallsLeft, unknown, unlimited, after, exhausted, Passes, Fails}
-use Rattle.medium.specs.Content.{Content, IsImage, written, after_write, after_sync}
-use Rattle.medium.specs.State.{MediumState, IfTold, EveryImage, TornWrite, Counted, told}
-use Rattle.medium.proofs.Images.{SameOutside, written-outside, counted-then}
-use Rattle.medium.proofs.Written.{length-written, get_or-written_before, get_or-written_there, get_or-written_behind}
+use Rattle.medium_model.specs.CallsLeft.{CallsLeft, unknown, unlimited, after, exhausted, Passes, Fails}
+use Rattle.medium_model.specs.Content.{Content, IsImage, written, after_write, after_sync}
+use Rattle.medium_model.specs.State.{MediumState, IfTold, EveryImage, TornWrite, Counted, told}
+use Rattle.medium_model.proofs.Images.{SameOutside, written-outside, counted-then}
+use Rattle.medium_model.proofs.Written.{length-written, get_or-written_before, get_or-written_there, get_or-written_behind}
 use Rattle.flash_ring.specs.Held.{Held, closed_all}
 use Rattle.flash_ring.specs.Slot.{slot_of, slot_bytes, slots_of, IsFlash, HoldsSound}
 use Rattle.flash_ring.specs.Images.{IsSettled, HoldsWith, IsEither, unchanged, changed, MayClose, OthersStay, AreOpen, has_slot, reached}

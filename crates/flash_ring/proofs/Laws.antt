@@ -2,12 +2,12 @@
 use Rattle.std.proofs.Common.{◌≡◌, ◌≢◌, inl, inr, ℕ, zero, suc, ◌+◌, ◌-◌, ◌<◌, ◌≤◌, nat_le, ◌==◌, not, ◌&&◌, if◌then◌else◌, Bool, true, false, IsTrue, List, [], ◌∷◌, length, get_or, set, drop, map, Option, Some, None, slice_get, sym, ◌∙◌, ap, refl, subst, arith, length-set, get_or-set_same, get_or-set_other}
 use Rattle.std.proofs.lemmas.Bool.{cases_eq, eq-eqb, false≢true}
 use Rattle.std.proofs.lemmas.Option.{slice_get-get_or, get_or_from_slice_get, slice_get_within}
-use Rattle.flash_ring.specs.declared.order.Order.{Order}
-use Rattle.flash_ring.specs.declared.order.Order.TheVariants.{Oldest}
+use Rattle.avl_values.specs.declared.order.Order.{Order}
+use Rattle.avl_values.specs.declared.order.Order.TheVariants.{Oldest}
 use Rattle.flash_ring.specs.Held.{Held, AreBelow, IsPart, is_full, closed_all, next_of, put_in}
 use Rattle.flash_ring.specs.Images.{MayClose, OthersStay, AreOpen, AreDistinct, has_slot}
 use Rattle.flash_ring.specs.Entries.{Entry, goes_first, insert_in, entries_from, entries_of, rec_of, held_of, batch, batch_of, selected, without_first, with_room}
-use Rattle.medium.specs.Content.{Content}
+use Rattle.medium_model.specs.Content.{Content}
 use Rattle.flash_ring.proofs.Rings.{next_of-below}
 use Rattle.flash_ring.proofs.Slots.{eqb-not}
 use Rattle.flash_ring.proofs.Entries.{Each, InOrder, IsEntry, bool_cases, first_trans, entries-in_order, insert-each, each-map, entries-open, length-insert_in, held_count}

@@ -3,8 +3,8 @@ use Rattle.std.proofs.Common.{◌≡◌, inl, inr, ℕ, ◌+◌, ◌-◌, ◌*�
 use Rattle.std.proofs.lemmas.Bool.{cases_eq}
 use Rattle.std.proofs.lemmas.List.{take_all, take_at}
 use Rattle.std.proofs.lemmas.Option.{get_or_from_slice_get, slice_get_within}
-use Rattle.medium.specs.Content.{Content}
-use Rattle.medium.specs.State.{IfTold}
+use Rattle.medium_model.specs.Content.{Content}
+use Rattle.medium_model.specs.State.{IfTold}
 use Rattle.flash_ring.specs.Held.{Held, IsSoundHeld, AreSound}
 use Rattle.flash_ring.specs.Slot.{HoldsSound, IsSoundSlot, IsFlash, IsFirstUnsound, slot_of, slot_bytes, slots_of}
 use Rattle.flash_ring.proofs.Slots.{gate-open, slots_of-is}

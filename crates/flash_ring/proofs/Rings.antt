@@ -3,13 +3,13 @@ use Rattle.std.proofs.Common.{◌≡◌, ◌≢◌, ◌⊎◌, inl, inr, ℕ, ze
 use Rattle.std.proofs.lemmas.Bool.{cases_eq, false≢true}
 use Rattle.std.proofs.lemmas.List.{drop_more}
 use Rattle.std.proofs.lemmas.Option.{get_or_from_slice_get, slice_get_within, slice_get-get_or, slice_get_past}
-use Rattle.medium.specs.State.{MediumState, IfTold}
+use Rattle.medium_model.specs.State.{MediumState, IfTold}
 use Rattle.record_codecs.specs.SomeRecord.{IsSomeRecord}
 use Rattle.flash_ring.specs.Held.{Held, IsSoundHeld, AreSound, AreBelow, first_closed, is_full, next_of, closed_all, rec_in, rec_at}
 use Rattle.flash_ring.specs.Images.{IsSettled, IsEither, unchanged, AreOpen}
 use Rattle.flash_ring.specs.Ring.{RingView, IsUp, IsRing, IsDurable, EachHolds}
 use Rattle.flash_ring.proofs.Closes.{length-closed_all, only_here, holds-map}
-use Rattle.flash_ring.specs.declared.order.Order.TheVariants.{Oldest}
+use Rattle.avl_values.specs.declared.order.Order.TheVariants.{Oldest}
 use Rattle.flash_ring.specs.Entries.{Entry, IsOldest, entries_of, first_slot, held_of, rec_of, with_room, without_first}
 use Rattle.flash_ring.proofs.Entries.{Each, IsEntry, entries-open, oldest_there}
 use Rattle.flash_ring.proofs.Stores.{settled_images}

@@ -2,9 +2,9 @@
 use Rattle.std.proofs.Common.{◌≡◌, ◌⊎◌, inl, inr, ℕ, zero, suc, ◌+◌, ◌*◌, ◌<◌, if◌then◌else◌, true, false, List, [], ◌∷◌, length, get_or, set, replicate, Option, Some, None, slice_get, IsSome, sym, ◌∙◌, ap, refl, subst, arith, length-set, get_or-set_same, get_or-set_other}
 use Rattle.std.proofs.lemmas.Option.{slice_get-get_or, slice_get_within, get_or_from_slice_get}
 use Rattle.std.proofs.lemmas.Bool.{cases_eq, false≢true}
-use Rattle.medium.specs.Content.{Content}
-use Rattle.medium.specs.State.{EveryImage, WasImage}
-use Rattle.flash_ring.specs.declared.order.Order.TheVariants.{Oldest}
+use Rattle.medium_model.specs.Content.{Content}
+use Rattle.medium_model.specs.State.{EveryImage, WasImage}
+use Rattle.avl_values.specs.declared.order.Order.TheVariants.{Oldest}
 use Rattle.flash_ring.specs.Entries.{Entry, entries_of, with_room, without_first}
 use Rattle.flash_ring.specs.Held.{Held, AreBelow, closed_all, first_closed, is_full, put_in}
 use Rattle.flash_ring.specs.Images.{HoldsWith, IsEither, MayClose, unchanged, changed}

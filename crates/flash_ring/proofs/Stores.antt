@@ -2,10 +2,10 @@
 use Rattle.std.proofs.Common.{◌≡◌, ◌≢◌, ◌⊎◌, inl, inr, ℕ, ◌+◌, ◌*◌, ◌<◌, ◌≤◌, List, [], ◌∷◌, length, get_or, set, Option, Some, None, slice_get, sym, ◌∙◌, ap, refl, subst, arith, mul-le-mul_left}
 use Rattle.std.proofs.lemmas.Bool.Decides.{nat_tests}
 use Rattle.std.proofs.lemmas.Option.{slice_get_within}
-use Rattle.medium.specs.Content.{Content, IsImage, settled, written, after_write, after_sync}
-use Rattle.medium.specs.State.{IfTold, EveryImage, TornWrite, told}
-use Rattle.medium.proofs.Images.{SameOutside, WritesWithin, image-settled, written-outside, told-map, images-written, images-torn}
-use Rattle.medium.proofs.Written.{get_or-written_there}
+use Rattle.medium_model.specs.Content.{Content, IsImage, settled, written, after_write, after_sync}
+use Rattle.medium_model.specs.State.{IfTold, EveryImage, TornWrite, told}
+use Rattle.medium_model.proofs.Images.{SameOutside, WritesWithin, image-settled, written-outside, told-map, images-written, images-torn}
+use Rattle.medium_model.proofs.Written.{get_or-written_there}
 use Rattle.flash_ring.specs.Held.{Held, IsSoundHeld}
 use Rattle.flash_ring.specs.Slot.{body_of, slot_bytes, slots_of, IsFlash}
 use Rattle.flash_ring.specs.Images.{IsSettled, HoldsWith, IsEither, unchanged, changed, OthersStay}

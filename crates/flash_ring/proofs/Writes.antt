@@ -3,9 +3,9 @@ use Rattle.std.proofs.Common.{◌≡◌, ◌≢◌, ◌⊎◌, inl, inr, ℕ, ze
 use Rattle.std.proofs.lemmas.Bool.{cases_lt, cases_eq}
 use Rattle.std.proofs.lemmas.List.{ext_get_or, set-get_or, length-replicate}
 use Rattle.std.proofs.lemmas.Option.{get_or_from_slice_get}
-use Rattle.medium.specs.Content.{written}
-use Rattle.medium.proofs.Images.{SameOutside, written-outside}
-use Rattle.medium.proofs.Written.{get_or-written_there}
+use Rattle.medium_model.specs.Content.{written}
+use Rattle.medium_model.proofs.Images.{SameOutside, written-outside}
+use Rattle.medium_model.proofs.Written.{get_or-written_there}
 use Rattle.flash_ring.specs.Held.{Held, IsSoundHeld}
 use Rattle.flash_ring.specs.Slot.{body_of, slot_of, HoldsSound, IsSoundSlot, slot_bytes, slots_of, IsFlash}
 use Rattle.flash_ring.proofs.Slots.{length-slots_of, slots_of-at, slots_of-is, slot_bytes-at, length-slot_bytes, slot_bytes-same, slot_of-closed, gate-closed, slot_of-layout}

@@ -1,7 +1,7 @@
 -- What a power loss may leave of a flash, said of its slots.
 use Rattle.std.specs.Prelude.{◌≡◌, ◌⊎◌, ℕ, ◌+◌, ◌==◌, ◌||◌, Bool, false, IsTrue, List, [], ◌∷◌, length, take, slice_get, Option, Some, None}
-use Rattle.medium.specs.CallsLeft.{CallsLeft, unknown, unlimited, after, exhausted}
-use Rattle.medium.specs.Content.{Content, settled}
+use Rattle.medium_model.specs.CallsLeft.{CallsLeft, unknown, unlimited, after, exhausted}
+use Rattle.medium_model.specs.Content.{Content, settled}
 use Rattle.flash_ring.specs.Held.{Held}
 use Rattle.flash_ring.specs.Slot.{IsFlash, slot_bytes, slots_of}
 

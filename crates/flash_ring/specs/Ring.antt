@@ -1,6 +1,6 @@
 -- What contracts see of a ring, and what its calls do to it.
 use Rattle.std.specs.Prelude.{◌≡◌, ℕ, ◌*◌, ◌≤◌, ◌<◌, ◌^◌, ◌==◌, if◌then◌else◌, Bool, false, List, length, Option}
-use Rattle.medium.specs.State.{MediumState, IfTold, EveryImage, WasImage, Counted}
+use Rattle.medium_model.specs.State.{MediumState, IfTold, EveryImage, WasImage, Counted}
 use Rattle.flash_ring.specs.Held.{Held, AreSound, AreBelow, is_full}
 use Rattle.flash_ring.specs.Slot.{IsFlash, slots_of}
 use Rattle.flash_ring.specs.Images.{IsSettled, HoldsWith}

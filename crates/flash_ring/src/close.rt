@@ -1,11 +1,11 @@
 ghost use Rattle.std.specs.Prelude.{◌≡◌, ◌+◌, ◌*◌, ◌<◌, ◌≤◌, length, OnOk, IsErr};
-ghost use Rattle.medium.specs.State.{Counted, EveryImage, IfTold};
+ghost use Rattle.medium_model.specs.State.{Counted, EveryImage, IfTold};
 ghost use Rattle.flash_ring.specs.Held.{closed_all};
 ghost use Rattle.flash_ring.specs.Images.{AreOpen, HoldsWith, IsSettled, MayClose, OthersStay, reached};
 
 use crate::held::{CLOSED, Held};
 use avl_values::Failed;
-use medium::Medium;
+use medium_model::Medium;
 
 /// Closes slots, each by a write of its gate, in the order given. They are durable together.
 pub fn close_slots<M: Medium>(

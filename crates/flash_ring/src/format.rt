@@ -1,10 +1,10 @@
 ghost use Rattle.std.specs.Prelude.{◌≡◌, ◌+◌, ◌*◌, ◌≤◌, [], length, replicate, OnOk, IsErr};
-ghost use Rattle.medium.specs.Content.{settled};
-ghost use Rattle.medium.specs.State.{Counted, EveryImage, IfTold};
+ghost use Rattle.medium_model.specs.Content.{settled};
+ghost use Rattle.medium_model.specs.State.{Counted, EveryImage, IfTold};
 
 use crate::held::SLOT_BYTES;
 use avl_values::Failed;
-use medium::Medium;
+use medium_model::Medium;
 
 /// Writes so many closed slots onto an empty medium, and syncs.
 pub fn format<M: Medium>(medium: &mut M, slots: u16) -> Result<(), Failed>

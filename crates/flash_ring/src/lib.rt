@@ -6,11 +6,10 @@ mod close;
 mod format;
 mod held;
 mod load;
-mod order;
 mod rank;
 mod ring;
 mod store;
 
+pub use avl_values::Order;
 pub use load::{OpenFault, ReopenFault};
-pub use order::Order;
 pub use ring::{PutFault, Ring};

@@ -1,6 +1,6 @@
 ghost use Rattle.std.specs.Prelude.{◌≡◌, ◌≢◌, ◌+◌, ◌*◌, ◌<◌, ◌≤◌, ℕ, length, Some, None, IfOk, IfErr, OnOk, OnErr, IsErrOf};
-ghost use Rattle.medium.specs.CallsLeft.{Fails};
-ghost use Rattle.medium.specs.State.{EveryImage, IfTold, WasImage};
+ghost use Rattle.medium_model.specs.CallsLeft.{Fails};
+ghost use Rattle.medium_model.specs.State.{EveryImage, IfTold, WasImage};
 ghost use Rattle.flash_ring.specs.Held.{AreSound};
 ghost use Rattle.flash_ring.specs.Images.{IsSettled};
 ghost use Rattle.flash_ring.specs.Ring.{CountedMaybe, CountedSome};
@@ -10,7 +10,7 @@ ghost use Rattle.flash_ring.specs.declared.load.ReopenFault.TheVariants.{MediumF
 
 use crate::held::{Held, SLOT_BYTES, Unsound, read_slot};
 use avl_values::{Failed, NoMemory};
-use medium::Medium;
+use medium_model::Medium;
 use std::alloc::Global;
 
 /// Why a ring isn't opened again. It is down.

@@ -1,9 +1,9 @@
 ghost use Rattle.std.specs.Prelude.{◌≡◌, ◌≢◌, ◌⊎◌, ◌↔◌, ◌+◌, ◌*◌, ◌<◌, ◌≤◌, ◌^◌, true, false, ℕ, [], ◌∷◌, drop, length, replicate, set, slice_get, Some, None, IfNone, IfSome, IfOk, IfErr, OnOk, OnErr, IsOk, IsErr, IsErrOf};
 ghost use Rattle.avl_values.specs.Causes.{Rose};
 ghost use Rattle.avl_values.specs.Viewed.{record_of};
-ghost use Rattle.medium.specs.CallsLeft.{Fails, after, unlimited};
-ghost use Rattle.medium.specs.Content.{settled};
-ghost use Rattle.medium.specs.State.{Counted, EveryImage, IfTold, WasImage};
+ghost use Rattle.medium_model.specs.CallsLeft.{Fails, after, unlimited};
+ghost use Rattle.medium_model.specs.Content.{settled};
+ghost use Rattle.medium_model.specs.State.{Counted, EveryImage, IfTold, WasImage};
 ghost use Rattle.record_codecs.specs.SomeRecord.{IsSomeRecord};
 ghost use Rattle.flash_ring.specs.Entries.{IsOldest, entries_of, first_slot, held_of, selected, with_room};
 ghost use Rattle.flash_ring.specs.Held.{closed_all, first_closed, is_full, next_of, put_in, rec_at};
@@ -21,7 +21,7 @@ use crate::rank::{count_open, oldest_slot, select};
 use crate::store::store;
 use arrayvec::ArrayVec;
 use avl_values::{Failed, MediumFault, NoMemory, Rec};
-use medium::{Bench, Medium, ReserveError, Tear};
+use medium_model::{Bench, Medium, ReserveError, Tear};
 use std::alloc::Global;
 use std::marker::Model;
 

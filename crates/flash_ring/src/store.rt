@@ -1,11 +1,11 @@
 ghost use Rattle.std.specs.Prelude.{◌≡◌, ◌+◌, ◌*◌, ◌<◌, ◌≤◌, [], ◌∷◌, length, set, slice_get, Some, None, OnOk, IsErr};
-ghost use Rattle.medium.specs.State.{Counted, EveryImage, IfTold};
+ghost use Rattle.medium_model.specs.State.{Counted, EveryImage, IfTold};
 ghost use Rattle.flash_ring.specs.Held.{IsSoundHeld};
 ghost use Rattle.flash_ring.specs.Images.{HoldsWith, IsEither, IsSettled, OthersStay};
 
 use crate::held::{Held, OPEN};
 use avl_values::Failed;
-use medium::Medium;
+use medium_model::Medium;
 
 /// Stores a record in a closed slot: its body is durable before its gate is opened.
 pub fn store<M: Medium>(

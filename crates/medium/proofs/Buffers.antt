@@ -2,11 +2,11 @@
 use Rattle.std.proofs.Common.{◌≡◌, ◌⊎◌, inl, inr, ℕ, ◌+◌, ◌-◌, ◌<◌, ◌≤◌, max, Bool, true, false, List, [], length, get_or, set, take, replicate, sym, ◌∙◌, ap, refl, subst, arith, length-take, length-set, get_or-set_same, get_or-set_other}
 use Rattle.std.proofs.lemmas.List.{length-replicate, ext_get_or, get_or-take, get_or-replicate, get_or_past}
 use Rattle.std.proofs.lemmas.Bool.{cases_lt, cases_eq}
-use Rattle.medium.specs.Content.{written}
+use Rattle.medium_model.specs.Content.{written}
 use Rattle.medium.specs.Buffer.{Buffer, DirtyMarks, HasMore, IsPadded, IsMarked, IsOutside, SetFrom}
 use Rattle.medium.specs.declared.spans.Span.{Span}
 use Rattle.medium.proofs.Outside.{end-later}
-use Rattle.medium.proofs.Written.{length-written, get_or-written_before, get_or-written_there, get_or-written_behind}
+use Rattle.medium_model.proofs.Written.{length-written, get_or-written_before, get_or-written_there, get_or-written_behind}
 
 pub set-none : {A : Type 0} → (d : A) (at : ℕ) (f : ℕ → A) (xs : List A) → SetFrom d at 0 f xs xs
 set-none d at f xs = record { size = refl; there = λ k below. absurd (omega arith); elsewhere = λ k _. refl }

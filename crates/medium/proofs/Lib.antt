@@ -1,5 +1,3 @@
 pub mod Buffers
-pub mod Images
 pub mod Outside
 pub mod Torn
-pub mod Written

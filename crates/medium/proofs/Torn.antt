@@ -1,13 +1,13 @@
 -- What a write does to an image in memory, and that each such image is one that a power loss may leave.
 use Rattle.std.proofs.Common.{◌≡◌, ◌⊎◌, inl, inr, ℕ, ◌+◌, ◌<◌, ◌≤◌, max, ◌/◌, ◌==◌, if◌then◌else◌, Bool, true, false, Result, Ok, Err, OnErr, Some, List, length, get_or, take, replicate, sym, ◌∙◌, ap, refl, subst, arith, length-take}
 use Rattle.std.proofs.lemmas.List.{length-replicate, get_or-replicate}
-use Rattle.medium.specs.Content.{Content, IsImage, FailedWrite, after_write, written}
-use Rattle.medium.specs.State.{TornWrite}
+use Rattle.medium_model.specs.Content.{Content, IsImage, FailedWrite, after_write, written}
+use Rattle.medium_model.specs.State.{TornWrite}
 use Rattle.medium.specs.Buffer.{Buffer, DirtyMarks, Held, IsTornImage, FitTogether, content_of}
 use Rattle.medium.specs.Memory.{Tears, TearsHeld, IsBench, after_torn, torn_write}
-use Rattle.medium.specs.declared.bench.Tear.TheVariants.{Half}
+use Rattle.medium_model.specs.declared.bench.Tear.TheVariants.{Half}
 use Rattle.medium.proofs.Buffers.{ahead, inside, past, place_of}
-use Rattle.medium.proofs.Written.{length-written, get_or-written_before, get_or-written_there, get_or-written_behind}
+use Rattle.medium_model.proofs.Written.{length-written, get_or-written_before, get_or-written_there, get_or-written_behind}
 
 pub image-torn : (c : Content) (image : List ℕ) → IsTornImage c image → IsImage c image
 image-torn c image torn = record { no_shorter = torn.no_shorter; no_longer = torn.no_longer; stays = λ k _ clean. torn.clean k clean }

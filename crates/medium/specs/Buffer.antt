@@ -3,7 +3,7 @@
 use Rattle.std.specs.Prelude.{◌≡◌, ◌⊎◌, ℕ, ◌+◌, ◌<◌, ◌≤◌, ◌^◌, max, Bool, false, List, [], ◌∷◌, length, get_or}
 use Rattle.std.specs.List.{All}
 use Rattle.medium.specs.declared.spans.Span.{Span}
-use Rattle.medium.specs.Content.{Content}
+use Rattle.medium_model.specs.Content.{Content}
 
 -- bytes from place 0 on, and the place up to which there is room
 pub record Buffer : Type 0 where

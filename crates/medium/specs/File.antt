@@ -1,7 +1,7 @@
 -- What contracts see of a medium over a file of the operating system: nothing of its content.
 use Rattle.std.specs.Prelude.{ℕ, Bool, None}
-use Rattle.medium.specs.CallsLeft.{unknown}
-use Rattle.medium.specs.State.{MediumState}
+use Rattle.medium_model.specs.CallsLeft.{unknown}
+use Rattle.medium_model.specs.State.{MediumState}
 
 pub record FileView : Type 0 where
   pub ready : ℕ

@@ -1,12 +1,12 @@
 -- What contracts see of the media in memory, and what a power loss leaves of a bench (this project's own).
 use Rattle.std.specs.Prelude.{◌≡◌, ◌↔◌, ℕ, ◌/◌, ◌≤◌, ◌==◌, if◌then◌else◌, List, [], ◌∷◌, length, replicate, take, Some, Contains}
 use Rattle.avl_values.specs.Causes.{more_by_one}
-use Rattle.medium.specs.CallsLeft.{CallsLeft, unknown, unlimited, after, exhausted}
+use Rattle.medium_model.specs.CallsLeft.{CallsLeft, unknown, unlimited, after, exhausted}
 use Rattle.medium.specs.Buffer.{Held, IsTornImage}
-use Rattle.medium.specs.Content.{Content, written}
-use Rattle.medium.specs.State.{MediumState}
-use Rattle.medium.specs.declared.bench.Tear.{Tear}
-use Rattle.medium.specs.declared.bench.Tear.TheVariants.{Keep, New, Zero, AllOpen, Half}
+use Rattle.medium_model.specs.Content.{Content, written}
+use Rattle.medium_model.specs.State.{MediumState}
+use Rattle.medium_model.specs.declared.bench.Tear.{Tear}
+use Rattle.medium_model.specs.declared.bench.Tear.TheVariants.{Keep, New, Zero, AllOpen, Half}
 use Rattle.medium.specs.declared.power.Power.{Power}
 use Rattle.medium.specs.declared.power.Power.TheVariants.{Unarmed, Armed, Lost}
 

@@ -1,6 +1,6 @@
 ghost use Rattle.std.specs.Prelude.{◌≡◌, ◌+◌, ◌<◌, ◌≤◌, ℕ, true, false, [], length, get_or, replicate, OnOk};
 ghost use Rattle.medium.specs.Buffer.{EndBy, IsOutside};
-ghost use Rattle.medium.specs.Content.{written};
+ghost use Rattle.medium_model.specs.Content.{written};
 
 use crate::spans::{Span, Spans, add, unmark};
 use arrayvec::ArrayVec;

@@ -1,12 +1,12 @@
 ghost use Rattle.std.specs.Prelude.{◌≡◌, ◌⊎◌, ◌+◌, ◌-◌, ◌<◌, ◌≤◌, ◌^◌, true, false, min, length, take, drop, IfOk, OnOk, OnErr, IsErr, IsErrOf, IsSome};
 ghost use Rattle.avl_values.specs.Causes.{Rose};
-ghost use Rattle.medium.specs.CallsLeft.{MayFail};
-ghost use Rattle.medium.specs.Content.{IsImage, after_write, after_sync};
+ghost use Rattle.medium_model.specs.CallsLeft.{MayFail};
+ghost use Rattle.medium_model.specs.Content.{IsImage, after_write, after_sync};
 ghost use Rattle.medium.specs.File.{file_state};
-ghost use Rattle.medium.specs.State.{Counted, IfTold, TornWrite, told};
+ghost use Rattle.medium_model.specs.State.{Counted, IfTold, TornWrite, told};
 
-use crate::{Medium, ReserveError};
 use avl_values::Failed;
+use medium_model::{Medium, ReserveError};
 use std::fs;
 use std::marker::Model;
 use std::os::unix::fs::FileExt;

@@ -1,6 +1,6 @@
 ghost use Rattle.std.specs.Prelude.{◌≡◌, ◌⊎◌, ◌+◌, ◌-◌, ◌<◌, ◌≤◌, min, ℕ, [], length, get_or, replicate, take, drop, OnOk};
 ghost use Rattle.medium.specs.Buffer.{EndBy, IsOutside};
-ghost use Rattle.medium.specs.Content.{written};
+ghost use Rattle.medium_model.specs.Content.{written};
 
 use crate::spans::{Span, copy_spans};
 use avl_values::NoMemory;

@@ -2,11 +2,9 @@
 //! bench in memory, and an adapter over a file.
 #![tactic(auto)]
 
-mod bench;
 mod dirty_map;
 mod file_medium;
 mod image;
-mod medium;
 mod memory_bench;
 mod memory_content;
 mod memory_medium;
@@ -14,9 +12,8 @@ mod power;
 mod spans;
 mod torn_images;
 
-pub use bench::{Bench, Tear};
 pub use file_medium::FileMedium;
-pub use medium::{Medium, ReserveError};
+pub use medium_model::{Bench, Medium, ReserveError, Tear};
 pub use memory_bench::MemoryBench;
 pub use memory_medium::MemoryMedium;
 

@@ -1,16 +1,16 @@
 ghost use Rattle.std.specs.Prelude.{◌≡◌, ◌≢◌, ◌⊎◌, ◌↔◌, ◌+◌, ◌-◌, ◌<◌, ◌≤◌, ◌^◌, ℕ, List, Some, [], min, length, take, drop, IfOk, OnOk, OnErr, IsErr, IsErrOf, IsSome, IsTrue, refl};
 ghost use Rattle.avl_values.specs.Causes.{Rose};
 ghost use Rattle.medium.specs.Buffer.{IsTornImage};
-ghost use Rattle.medium.specs.CallsLeft.{MayFail, unlimited, after};
-ghost use Rattle.medium.specs.Content.{IsImage, after_write, after_sync, settled};
+ghost use Rattle.medium_model.specs.CallsLeft.{MayFail, unlimited, after};
+ghost use Rattle.medium_model.specs.Content.{IsImage, after_write, after_sync, settled};
 ghost use Rattle.medium.specs.Memory.{after_torn, all_alike, bench_state, image_of, left_told};
-ghost use Rattle.medium.specs.State.{Counted, IfTold, TornWrite, told};
+ghost use Rattle.medium_model.specs.State.{Counted, IfTold, TornWrite, told};
 
 use crate::memory_content::MemoryContent;
 use crate::power::Power;
 use crate::torn_images::TornImages;
-use crate::{Bench, Medium, ReserveError, Tear};
 use avl_values::{Failed, NoMemory};
+use medium_model::{Bench, Medium, ReserveError, Tear};
 use std::alloc::Global;
 use std::marker::Model;
 

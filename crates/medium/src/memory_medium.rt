@@ -1,13 +1,13 @@
 ghost use Rattle.std.specs.Prelude.{◌≡◌, ◌⊎◌, ◌↔◌, ◌+◌, ◌-◌, ◌<◌, ◌≤◌, ◌^◌, min, length, take, drop, IfOk, OnOk, OnErr, IsErr, IsErrOf, IsSome, IsTrue};
 ghost use Rattle.avl_values.specs.Causes.{Rose};
-ghost use Rattle.medium.specs.CallsLeft.{MayFail};
-ghost use Rattle.medium.specs.Content.{IsImage, after_write, after_sync, settled};
+ghost use Rattle.medium_model.specs.CallsLeft.{MayFail};
+ghost use Rattle.medium_model.specs.Content.{IsImage, after_write, after_sync, settled};
 ghost use Rattle.medium.specs.Memory.{IsNumbered, memory_state};
-ghost use Rattle.medium.specs.State.{Counted, IfTold, TornWrite, told};
+ghost use Rattle.medium_model.specs.State.{Counted, IfTold, TornWrite, told};
 
 use crate::memory_content::MemoryContent;
-use crate::{Medium, ReserveError};
 use avl_values::{Failed, NoMemory};
+use medium_model::{Medium, ReserveError};
 use std::alloc::Global;
 use std::marker::Model;
 

@@ -6,8 +6,8 @@ use Rattle.std.proofs.lemmas.List.{take_more}
 use Rattle.std.proofs.lemmas.Option.{slice_get-get_or, slice_get_within, get_or_from_slice_get}
 use Rattle.avl_values.specs.Record.{Record}
 use Rattle.avl_values.specs.declared.codec.Codec.{Codec}
-use Rattle.medium.specs.Content.{Content}
-use Rattle.medium.specs.State.{IfTold}
+use Rattle.medium_model.specs.Content.{Content}
+use Rattle.medium_model.specs.State.{IfTold}
 use Rattle.archive_journal.specs.Body.{EntryValue}
 use Rattle.archive_journal.specs.Entries.{entries_of}
 use Rattle.archive_journal.specs.Journal.{JournalView, IsDurable}

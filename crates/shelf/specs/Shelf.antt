@@ -3,8 +3,8 @@ use Rattle.std.specs.Prelude.{◌≡◌, ℕ, ◌≤◌, ◌^◌, map, Bool, tru
 use Rattle.avl_values.specs.Causes.{IsAbove}
 use Rattle.avl_values.specs.Record.{Record}
 use Rattle.layout.specs.Rows.{whole}
-use Rattle.medium.specs.Content.{Content}
-use Rattle.medium.specs.State.{MediumState, IfTold, Counted}
+use Rattle.medium_model.specs.Content.{Content}
+use Rattle.medium_model.specs.State.{MediumState, IfTold, Counted}
 use Rattle.record_layout.specs.PacketRows.{packet_verdict}
 use Rattle.record_layout.specs.RecordsOf.{records_of}
 use Rattle.record_layout.specs.declared.head.PacketHead.{PacketHead}

@@ -1,6 +1,6 @@
 //! New records kept in the journal.
 ghost use Rattle.std.specs.Prelude.{◌≡◌, ◌<◌, ◌≤◌, length, drop, IfOk, OnOk, OnErr, IsErrOf};
-ghost use Rattle.medium.specs.State.{Counted};
+ghost use Rattle.medium_model.specs.State.{Counted};
 ghost use Rattle.archive_journal.specs.Journal.{EachHolds, IsDurable, IsEither, entries_told, with_entry};
 ghost use Rattle.shelf.specs.Kept.{keep_calls};
 ghost use Rattle.shelf.specs.Shelf.{MakesEntry, recs_of};
@@ -8,7 +8,7 @@ ghost use Rattle.shelf.specs.Shelf.{MakesEntry, recs_of};
 use crate::stored::Stored;
 use archive_journal::{Journal, write_body};
 use avl_values::{Imei, NoMemory, WideRec};
-use medium::{Medium, ReserveError};
+use medium_model::{Medium, ReserveError};
 use std::alloc::Global;
 
 /// Why nothing was kept.

@@ -1,8 +1,8 @@
 ghost use Rattle.std.specs.Prelude.{◌≡◌, ◌≤◌, ◌^◌, true, false, length, IfOk, IfErr, OnOk};
 ghost use Rattle.avl_values.specs.Causes.{IsAbove};
-ghost use Rattle.medium.specs.CallsLeft.{after, unlimited};
-ghost use Rattle.medium.specs.Content.{after_sync};
-ghost use Rattle.medium.specs.State.{EveryImage, IfTold, told};
+ghost use Rattle.medium_model.specs.CallsLeft.{after, unlimited};
+ghost use Rattle.medium_model.specs.Content.{after_sync};
+ghost use Rattle.medium_model.specs.State.{EveryImage, IfTold, told};
 ghost use Rattle.record_layout.specs.RecordsOf.{count_of};
 ghost use Rattle.archive_journal.specs.Entries.{IsArchive, entries_of};
 ghost use Rattle.archive_journal.specs.Journal.{IsRun, KeepsEntries};
@@ -19,7 +19,7 @@ use crate::staging::stage;
 use crate::stored::Stored;
 use archive_journal::{ArchiveFault, Journal};
 use avl_values::{Imei, NoMemory};
-use medium::{Bench, Medium, Tear};
+use medium_model::{Bench, Medium, Tear};
 use std::alloc::Global;
 use std::marker::Model;
 

@@ -10,7 +10,7 @@ use Rattle.avl_values.specs.Record.{Record}
 use Rattle.avl_values.specs.declared.codec.Codec.TheVariants.{C8}
 use Rattle.trial_model.specs.Decisions.{Decision, DeviceHistory, LineProgress, after_connection, after_fix, after_step, before_all, decide_one, history_of, progress_of, records_decided, steps_of, store_cost}
 use Rattle.trial_model.specs.Script.{Device, device_on, devices_of, lines_of, opening_of, setting_on, settings_of}
-use Rattle.trial_model.specs.declared.order.Order.TheVariants.{Oldest}
+use Rattle.avl_values.specs.declared.order.Order.TheVariants.{Oldest}
 use Rattle.trial_model.specs.declared.outcome.DeviceEnd.{DeviceEnd}
 use Rattle.trial_model.specs.declared.outcome.DeviceOutcome.{DeviceOutcome}
 use Rattle.trial_model.specs.declared.script.ScriptLine.{ScriptLine}

@@ -5,7 +5,7 @@
 use Rattle.std.specs.Prelude.{ℕ, ◌^◌, ◌-◌, ◌&&◌, Bool, true, [], List, Option, Some, None, option_and_then, codes, if◌then◌else◌}
 use Rattle.std.specs.Str.{bytes_eq}
 use Rattle.avl_values.specs.declared.codec.Codec.TheVariants.{C8}
-use Rattle.trial_model.specs.declared.order.Order.TheVariants.{Oldest}
+use Rattle.avl_values.specs.declared.order.Order.TheVariants.{Oldest}
 use Rattle.trial_model.specs.declared.script.ScriptLine.{ScriptLine}
 use Rattle.trial_model.specs.declared.script.ScriptLine.TheVariants as Line
 use Rattle.trial_bench.specs.Fields.{FiveTexts, TenTexts, fields_of, five_of, ten_of}

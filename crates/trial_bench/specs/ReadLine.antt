@@ -1,7 +1,7 @@
 -- The line that was read, as a line of a script.
 use Rattle.std.specs.Prelude.{◌≡◌, None, true, length}
 use Rattle.avl_values.specs.declared.codec.Codec.TheVariants.{C8}
-use Rattle.trial_model.specs.declared.order.Order.TheVariants.{Oldest}
+use Rattle.avl_values.specs.declared.order.Order.TheVariants.{Oldest}
 use Rattle.trial_model.specs.declared.script.ScriptLine.{ScriptLine}
 use Rattle.trial_model.specs.declared.script.ScriptLine.TheVariants as Line
 use Rattle.trial_bench.specs.declared.plain_line.PlainLine.{PlainLine}

@@ -1,6 +1,6 @@
 ghost use Rattle.std.specs.Prelude.{◌≡◌, ◌<◌, ℕ, true, IfOk, IfErr, IsTrue, length, vec_len};
 ghost use Rattle.avl_values.specs.declared.codec.Codec.TheVariants.{C8};
-ghost use Rattle.trial_model.specs.declared.order.Order.TheVariants.{Oldest};
+ghost use Rattle.avl_values.specs.declared.order.Order.TheVariants.{Oldest};
 ghost use Rattle.trial_bench.specs.PlainLines.{plain_line};
 ghost use Rattle.trial_bench.specs.PlainScript.{Refuses, may_stand, script_of, with_line};
 ghost use Rattle.trial_bench.specs.ReadLine.{IsBare, says};

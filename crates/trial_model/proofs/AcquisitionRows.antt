@@ -4,7 +4,7 @@ use Rattle.std.specs.Prelude.{true}
 use Rattle.avl_values.specs.declared.codec.Codec.TheVariants.{C8E, C16}
 use Rattle.io_operands.specs.declared.setting.IoSetting.{IoSetting}
 use Rattle.io_operands.specs.declared.setting.Operand.TheVariants.{Change}
-use Rattle.trial_model.specs.declared.order.Order.TheVariants.{Oldest}
+use Rattle.avl_values.specs.declared.order.Order.TheVariants.{Oldest}
 use Rattle.trial_model.specs.declared.script.ScriptLine.{ScriptLine}
 use Rattle.trial_model.specs.declared.script.ScriptLine.TheVariants as Line
 use Rattle.trial_model.specs.Decisions.{Decision, history_of, steps_of}

@@ -2,11 +2,11 @@
 use Rattle.std.specs.Prelude.{ℕ, ◌+◌, ◌*◌, pos, true, [], None, Option}
 use Rattle.avl_values.specs.declared.codec.Codec.TheVariants.{C8}
 use Rattle.acquisition.specs.declared.fix.Fix.{Fix}
-use Rattle.trial_model.specs.declared.order.Order.TheVariants.{Oldest}
+use Rattle.avl_values.specs.declared.order.Order.TheVariants.{Oldest}
 use Rattle.trial_model.specs.declared.script.ScriptLine.{ScriptLine}
 use Rattle.trial_model.specs.declared.script.ScriptLine.TheVariants as Line
 use Rattle.trial_model.specs.declared.script.Who.{Who}
-use Rattle.trial_model.specs.declared.tear.Tear.TheVariants.{Keep}
+use Rattle.medium_model.specs.declared.bench.Tear.TheVariants.{Keep}
 use Rattle.trial_model.specs.Script.{Device}
 
 abbrev pub imei : ℕ

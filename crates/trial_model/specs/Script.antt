@@ -4,7 +4,7 @@ use Rattle.std.specs.List.{filter_map}
 use Rattle.avl_values.specs.declared.codec.Codec.{Codec}
 use Rattle.io_operands.specs.declared.setting.IoSetting.{IoSetting}
 use Rattle.acquisition.specs.Settings.{AcquisitionSettings}
-use Rattle.trial_model.specs.declared.order.Order.{Order}
+use Rattle.avl_values.specs.declared.order.Order.{Order}
 use Rattle.trial_model.specs.declared.script.ScriptLine.{ScriptLine}
 use Rattle.trial_model.specs.declared.script.ScriptLine.TheVariants as Line
 

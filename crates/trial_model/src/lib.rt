@@ -3,15 +3,13 @@
 #![tactic(auto)]
 
 mod got;
-mod order;
 mod outcome;
 mod script;
-mod tear;
 
 pub use acquisition::Fix;
+pub use avl_values::Order;
 pub use got::Got;
 pub use io_operands::{IoSetting, Operand};
-pub use order::Order;
+pub use medium_model::Tear;
 pub use outcome::{ConnectionOutcome, DeviceEnd, DeviceOutcome, Outcome, ServerEnd};
 pub use script::{ScriptLine, Who};
-pub use tear::Tear;

@@ -1,8 +1,7 @@
-use crate::order::Order;
-use crate::tear::Tear;
 use acquisition::Fix;
-use avl_values::{Codec, Imei};
+use avl_values::{Codec, Imei, Order};
 use io_operands::IoSetting;
+use medium_model::Tear;
 
 /// Whose medium a `power` or a `fuse` line speaks of.
 #[derive(Clone, Copy, Debug, PartialEq, Eq)]

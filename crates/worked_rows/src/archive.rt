@@ -1,5 +1,5 @@
 ghost use Rattle.std.specs.Prelude.{◌≡◌, IfSome};
-ghost use Rattle.medium.specs.CallsLeft.{unlimited};
+ghost use Rattle.medium_model.specs.CallsLeft.{unlimited};
 
 use archive_journal::ArchiveFault;
 use avl_values::Imei;

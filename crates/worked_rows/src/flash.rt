@@ -1,5 +1,5 @@
 ghost use Rattle.std.specs.Prelude.{◌≡◌, ◌≤◌, false, IfSome};
-ghost use Rattle.medium.specs.CallsLeft.{unlimited};
+ghost use Rattle.medium_model.specs.CallsLeft.{unlimited};
 ghost use Rattle.medium.specs.Memory.{bench_state};
 ghost use Rattle.record_codecs.specs.SomeRecord.{IsSomeRecord};
 

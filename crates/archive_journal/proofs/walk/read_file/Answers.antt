@@ -1,7 +1,7 @@
 -- One read more.
 use Rattle.std.proofs.Common.{◌+◌, ◌∙◌, refl, rules}
 use Rattle.std.proofs.lemmas.Bool.{false≢true}
-use Rattle.medium.proofs.Images.{counted-then, counted-as}
+use Rattle.medium_model.proofs.Images.{counted-then, counted-as}
 use Rattle.archive_journal.proofs.Pieces.{read-more}
 use Rattle.archive_journal.proofs.walk.read_file.Goals as goal
 

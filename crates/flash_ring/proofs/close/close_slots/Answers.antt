@@ -1,7 +1,7 @@
 -- Each exit leaves what the gates before it left.
 use Rattle.std.proofs.Common.{refl, arith}
 use Rattle.std.proofs.lemmas.Bool.{false≢true}
-use Rattle.medium.proofs.Images.{counted-then, counted-as}
+use Rattle.medium_model.proofs.Images.{counted-then, counted-as}
 use Rattle.flash_ring.proofs.Closes.{gate-ready, gate-written, exit-gate_failed, exit-sync_failed, exit-closed_images}
 use Rattle.flash_ring.proofs.close.close_slots.Goals as goal
 

@@ -1,5 +1,5 @@
 use Rattle.std.proofs.Common.{length, take}
-use Rattle.medium.specs.State.{Counted}
+use Rattle.medium_model.specs.State.{Counted}
 use Rattle.flash_ring.proofs.Closes.{Shut}
 use Rattle.flash_ring.proofs.close.close_slots.Given as goal
 

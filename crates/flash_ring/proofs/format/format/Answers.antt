@@ -1,8 +1,8 @@
 -- Each write puts a slot of zero bytes behind those before.
 use Rattle.std.proofs.Common.{◌≡◌, ◌*◌, refl, arith, subst, replicate, ℕ}
 use Rattle.std.proofs.lemmas.Bool.{false≢true}
-use Rattle.medium.specs.State.{IfTold}
-use Rattle.medium.proofs.Images.{counted-then, counted-as}
+use Rattle.medium_model.specs.State.{IfTold}
+use Rattle.medium_model.proofs.Images.{counted-then, counted-as}
 use Rattle.flash_ring.proofs.Formats.{told-zeros, synced-zeros}
 use Rattle.flash_ring.proofs.format.format.Goals as goal
 

@@ -1,5 +1,5 @@
 use Rattle.std.proofs.Common.{◌≡◌, ◌*◌, replicate}
-use Rattle.medium.specs.State.{Counted, IfTold}
+use Rattle.medium_model.specs.State.{Counted, IfTold}
 use Rattle.flash_ring.proofs.format.format.Given as goal
 
 abbrev pub invariant-loop-slot : goal.invariant-loop-slot

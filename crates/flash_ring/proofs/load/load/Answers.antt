@@ -1,7 +1,7 @@
 -- One call more than those behind the first.
 use Rattle.std.proofs.Common.{◌+◌, refl, arith, rules}
 use Rattle.std.proofs.lemmas.Bool.{false≢true}
-use Rattle.medium.proofs.Images.{counted-then, counted-as}
+use Rattle.medium_model.proofs.Images.{counted-then, counted-as}
 use Rattle.flash_ring.proofs.load.load.Goals as goal
 
 pub returns-in_err-got-clause-counted : goal.returns-in_err-got-clause-counted

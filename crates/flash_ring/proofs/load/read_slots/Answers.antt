@@ -1,7 +1,7 @@
 -- Each slot is read as its bytes stand.
 use Rattle.std.proofs.Common.{◌+◌, ◌∙◌, length, refl, arith, rules}
 use Rattle.std.proofs.lemmas.Bool.{false≢true}
-use Rattle.medium.proofs.Images.{counted-then, counted-as}
+use Rattle.medium_model.proofs.Images.{counted-then, counted-as}
 use Rattle.flash_ring.proofs.Loads.{read-more, read-bad, read-sound, read-whole}
 use Rattle.flash_ring.proofs.load.read_slots.Goals as goal
 

@@ -1,5 +1,5 @@
 use Rattle.std.proofs.Common.{◌≡◌}
-use Rattle.medium.specs.State.{Counted}
+use Rattle.medium_model.specs.State.{Counted}
 use Rattle.flash_ring.proofs.load.read_slots.Given as goal
 use Rattle.flash_ring.proofs.Loads.{HasRead}
 

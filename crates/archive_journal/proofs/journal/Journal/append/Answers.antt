@@ -1,5 +1,5 @@
 use Rattle.std.proofs.Common.{◌∙◌, ap, sym, subst}
-use Rattle.medium.specs.State.{IfTold}
+use Rattle.medium_model.specs.State.{IfTold}
 use Rattle.archive_journal.specs.Journal.{JournalView}
 use Rattle.archive_journal.specs.Places.{IsClosed}
 use Rattle.archive_journal.specs.declared.write.Tail.{Tail}

@@ -4,7 +4,7 @@ use Rattle.std.proofs.lemmas.Result.{on_ok_weaker}
 use Rattle.flash_ring.specs.Held.{Held, is_full}
 use Rattle.flash_ring.specs.Images.{IsEither, MayClose, OthersStay, reached}
 use Rattle.flash_ring.specs.Entries.{IsOldest, entries_of, first_slot, with_room}
-use Rattle.flash_ring.specs.declared.order.Order.TheVariants.{Oldest}
+use Rattle.avl_values.specs.declared.order.Order.TheVariants.{Oldest}
 use Rattle.flash_ring.specs.Ring.{RingView}
 use Rattle.flash_ring.proofs.Closes.{closes-one, holds-map}
 use Rattle.flash_ring.proofs.Laws.{others-same}

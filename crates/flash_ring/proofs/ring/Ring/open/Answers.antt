@@ -1,6 +1,6 @@
 -- The ring is what was read.
 use Rattle.std.proofs.Common.{◌∙◌, ℕ, ap, refl, subst, arith}
-use Rattle.medium.specs.State.{IfTold}
+use Rattle.medium_model.specs.State.{IfTold}
 use Rattle.flash_ring.specs.Images.{IsSettled}
 use Rattle.flash_ring.specs.Held.{next_of}
 use Rattle.flash_ring.proofs.Rings.{durable_up, next_fits, ring-loaded}

@@ -4,7 +4,7 @@ use Rattle.std.proofs.lemmas.Option.{slice_get_within}
 use Rattle.avl_values.specs.Record.{Record}
 use Rattle.record_codecs.specs.SomeRecord.{IsSomeRecord}
 use Rattle.avl_values.specs.Viewed.{record_of}
-use Rattle.medium.specs.State.{IfTold}
+use Rattle.medium_model.specs.State.{IfTold}
 use Rattle.flash_ring.specs.Held.{Held, put_in}
 use Rattle.flash_ring.specs.Images.{IsEither, IsSettled}
 use Rattle.flash_ring.specs.Ring.{RingView, EachHolds}

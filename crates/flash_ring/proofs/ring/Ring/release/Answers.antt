@@ -1,6 +1,6 @@
 -- The ring is what the calls left.
 use Rattle.std.proofs.Common.{◌∙◌, List, Option, ap, length, subst}
-use Rattle.medium.specs.State.{IfTold}
+use Rattle.medium_model.specs.State.{IfTold}
 use Rattle.flash_ring.specs.Held.{Held, closed_all}
 use Rattle.flash_ring.specs.Images.{IsSettled}
 use Rattle.flash_ring.specs.Ring.{RingView}

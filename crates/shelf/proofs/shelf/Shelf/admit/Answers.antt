@@ -1,7 +1,7 @@
 -- Each exit of `admit` leaves what was staged and kept.
 use Rattle.std.proofs.Common.{◌≡◌, true, ◌∙◌, Result, Ok, Err, length, sym, ap, subst, refl, arith, rules}
 use Rattle.layout.proofs.Numbers.{are_bytes}
-use Rattle.medium.proofs.Images.{counted-as}
+use Rattle.medium_model.proofs.Images.{counted-as}
 use Rattle.record_layout.specs.RecordsOf.{records_of}
 use Rattle.archive_journal.proofs.Packets.{whole-is}
 use Rattle.shelf.specs.Kept.{keep_calls}

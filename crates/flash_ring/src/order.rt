@@ -1,8 +1,0 @@
-/// In which order the records that are held are taken.
-#[derive(Clone, Copy, Debug, PartialEq, Eq)]
-pub enum Order {
-    /// The least sequence first.
-    Oldest,
-    /// The greatest sequence first.
-    Newest,
-}

@@ -1,0 +1,3 @@
+pub mod CallsLeft
+pub mod Content
+pub mod State

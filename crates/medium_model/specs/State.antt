@@ -1,0 +1,48 @@
+-- What contracts see of a medium. Its content stands there where it tells it; of a real file nothing is told.
+use Rattle.std.specs.Prelude.{◌≡◌, ℕ, ◌≤◌, List, Option, Some, None}
+use Rattle.avl_values.specs.Causes.{Rose}
+use Rattle.medium_model.specs.CallsLeft.{CallsLeft, less, Passes, Fails}
+use Rattle.medium_model.specs.Content.{Content, IsImage, FailedWrite}
+
+pub record MediumState : Type 0 where
+  pub content : Option Content
+  pub left : CallsLeft
+  -- writes up to this place need no memory
+  pub ready : ℕ
+  -- how often it has failed
+  pub faults : ℕ
+
+-- what a call does to the content, where it is told
+abbrev pub told : (Content → Content) → Option Content → Option Content
+told f None = None
+told f (Some c) = Some (f c)
+
+-- a fact of the content, where it is told
+abbrev pub IfTold : Option Content → (Content → Type 0) → Type 0
+IfTold None P = Unit {0}
+IfTold (Some c) P = P c
+
+-- each image that a power loss now may leave has P, where the content is told
+abbrev pub EveryImage : Option Content → (List ℕ → Type 0) → Type 0
+EveryImage None P = Unit {0}
+EveryImage (Some c) P = (image : List ℕ) → IsImage c image → P image
+
+-- a power loss might have left this image then, where the content was told
+abbrev pub WasImage : Option Content → List ℕ → Type 0
+WasImage None image = Unit {0}
+WasImage (Some c) image = IsImage c image
+
+-- a write of n bytes that failed
+abbrev pub TornWrite : ℕ → ℕ → Option Content → Option Content → Type 0
+TornWrite at n None new = new ≡ None
+TornWrite at n (Some old) new = (c : Content) × (new ≡ Some c) × FailedWrite at n old c
+
+-- What a run of n calls of `len`, `read`, `write` and `sync` keeps to, whatever it does to the content: it ends at the
+-- first that fails, and has failed where one of them did.
+pub record Counted (n : ℕ) (old new : MediumState) (failed : Type 0) : Type 0 where
+  pub ready : old.ready ≤ new.ready
+  pub later : old.faults ≤ new.faults
+  pub cause : failed → Rose old.faults new.faults
+  pub left : new.left ≡ less n old.left
+  pub passes : Passes n old.left → failed → ⊥
+  pub fails : Fails n old.left → failed

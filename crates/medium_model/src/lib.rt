@@ -1,0 +1,9 @@
+//! The model of a medium that keeps bytes over a power loss: what contracts see of one, what a power loss may leave of it, and
+//! how many calls pass before one fails. It has no medium of its own.
+#![tactic(auto)]
+
+mod bench;
+mod medium;
+
+pub use bench::{Bench, Tear};
+pub use medium::{Medium, ReserveError};
