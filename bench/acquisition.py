@@ -1,17 +1,17 @@
 #!/usr/bin/env python3
 """Acquires over 1,000,000 and 2,000,000 fixes with eight I/O settings, and shows the time, the memory and their ratios.
 
-Usage: bench/acquisition.py [PROGRAM]; PROGRAM is the built one, crates/acquisition_bench/out/acquisition_bench by default.
+Usage: bench/acquisition.py [PROGRAM]; PROGRAM is the built one, crates/timings/out/timings by default (`rt run` in its folder builds it).
 Wanted: under 2 seconds for 1,000,000 fixes on one core, twice the time for twice the fixes, and the same memory.
 """
 from measure import best, program, times
 
-PROGRAM = program("acquisition_bench")
+PROGRAM = program("timings")
 
 
 def spent(fixes):
-    took = best([PROGRAM, str(fixes)])
-    assert took.said == f"{fixes // 10} records\n", took
+    took = best([PROGRAM, "acquisition", str(fixes)])
+    assert took.said == f"{fixes} {fixes // 10}\n", took
     print(f"{fixes} fixes: {took.elapsed:.2f} s, {took.memory:.1f} MB")
     return took
 

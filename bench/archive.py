@@ -2,20 +2,20 @@
 """Admits 1,000,000 and 2,000,000 records of 1,000 devices in packets of 40, over a medium in memory, and opens the first archive
 again; shows times, memory and the ratio.
 
-Usage: bench/archive.py [PROGRAM]; PROGRAM is the built archive_bench, crates/archive_bench/out/archive_bench by default (`rt run` in
-its folder builds it). Wanted for a million records: under 10 s and 1 GB, opening under 5 s, and at most 2.3 times the time for
+Usage: bench/archive.py [PROGRAM]; PROGRAM is the built one, crates/timings/out/timings by default (`rt run` in its folder
+builds it). Wanted for a million records: under 10 s and 1 GB, opening under 5 s, and at most 2.3 times the time for
 twice the records.
 """
 from measure import best, program, times
 
-PROGRAM = program("archive_bench")
+PROGRAM = program("timings")
 DEVICES, PACKET = 1000, 40
 
 
 def spent(records, opens):
     """One run for so many records and openings."""
-    took = best([PROGRAM], f"{records // PACKET} {DEVICES} {opens}\n", runs=1)
-    assert f"{records} records listed" in took.said, took
+    took = best([PROGRAM, "archive", str(records // PACKET), str(DEVICES), str(opens)], runs=1)
+    assert took.said == f"{records // PACKET} {records}\n", took
     return took
 
 

@@ -1,22 +1,22 @@
 #!/usr/bin/env python3
 """Judges data bodies of about 32,600 and 64,800 bytes over and over, and shows the speed and the ratio of the times.
 
-Usage: bench/codecs.py [PROGRAM]; PROGRAM is the built codec_bench, crates/codec_bench/out/codec_bench by default (`rt run` in its
-folder builds it). The records have as many elements of one byte as fit. A whole body is gone over part by part, all elements of a
+Usage: bench/codecs.py [PROGRAM]; PROGRAM is the built one, crates/timings/out/timings by default (`rt run` in its folder builds
+it). The records have as many elements of one byte as fit. A whole body is gone over part by part, all elements of a
 group at once, so that its time is that of its records. Wanted: 20 MB/s or more on one core, and at most twice the time for twice the
 bytes.
 """
 from measure import best, program, times
 
-PROGRAM = program("codec_bench")
+PROGRAM = program("timings")
 ROUNDS = 2000
 
 
 def spent(elements):
     """User seconds for the rounds, and the body's bytes."""
-    took = best([PROGRAM], f"{elements} {ROUNDS}\n")
-    assert f"{ROUNDS} of {ROUNDS} times whole" in took.said, took
-    size = int(took.said.split()[0])
+    took = best([PROGRAM, "codecs", str(elements), str(ROUNDS)])
+    size, whole = map(int, took.said.split())
+    assert whole == ROUNDS, took
     print(f"{size} bytes: {size * ROUNDS / took.user / 1e6:.0f} MB/s")
     return took.user, size
 

@@ -1,22 +1,23 @@
 #!/usr/bin/env python3
 """Reads a stream of 16 MB, and one of twice as many bytes, in pieces of 1, 1,460 and 65,536 bytes, and shows the speeds and the ratios.
 
-Usage: bench/frames.py [PROGRAM]; PROGRAM is the built frame_bench, crates/frame_bench/out/frame_bench by default (`rt run` in its
-folder builds it). The frames hold 255 records of Codec 8 with 112 elements of one byte, so that nearly each byte is a field of its
+Usage: bench/frames.py [PROGRAM]; PROGRAM is the built one, crates/timings/out/timings by default (`rt run` in its folder builds
+it). The frames hold 255 records of Codec 8 with 112 elements of one byte, so that nearly each byte is a field of its
 own. Wanted: the slowest cutting takes little more time than the fastest, and twice the stream takes about twice the time.
 """
 from measure import best, program, times
 
-PROGRAM = program("frame_bench")
+PROGRAM = program("timings")
 FRAMES = 259
 PIECES = (1, 1460, 65536)
 
 
 def spent(frames, piece):
     """User seconds for the stream, and the stream's bytes."""
-    took = best([PROGRAM], f"{frames} {piece}\n")
-    assert f"{frames} of {frames} frames" in took.said, took
-    return took.user, int(took.said.split()[0])
+    took = best([PROGRAM, "frames", str(frames), str(piece)])
+    size, read = map(int, took.said.split())
+    assert read == frames, took
+    return took.user, size
 
 
 once = []

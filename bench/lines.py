@@ -1,21 +1,20 @@
 #!/usr/bin/env python3
 """Writes the lines of a packet of 200 records over and over, and shows the time and the ratio of the times.
 
-Usage: bench/lines.py [PROGRAM]; PROGRAM is the built lines_bench, crates/lines_bench/out/lines_bench by default (`rt run` in its
-folder builds it). 1,390 packets of 200 records without elements are the bytes of a capture of 2^24 bytes, nearly.
+Usage: bench/lines.py [PROGRAM]; PROGRAM is the built one, crates/timings/out/timings by default (`rt run` in its folder builds
+it). 1,390 packets of 200 records without elements are the bytes of a capture of 2^24 bytes, nearly.
 Wanted: less than half a second for these, and about twice the time for twice the packets.
 """
 from measure import best, program, times
 
-PROGRAM = program("lines_bench")
+PROGRAM = program("timings")
 
 
 def spent(elements, rounds):
     """User seconds for the rounds, and the bytes of one packet's body and lines."""
-    took = best([PROGRAM], f"{elements} {rounds}\n")
-    assert f"{rounds} times" in took.said, took
-    words = took.said.split()
-    return took.user, int(words[0]), int(words[2])
+    took = best([PROGRAM, "lines", str(elements), str(rounds)])
+    body, lines = map(int, took.said.split())
+    return took.user, body, lines
 
 
 for elements in (0, 7, 60):

@@ -1,7 +1,7 @@
 #!/usr/bin/env python3
 """Works a flash ring of 4,096 slots and a medium, both in memory, and shows the time, the memory and their ratios.
 
-Usage: bench/ring.py [PROGRAM]; PROGRAM is the built one, crates/ring_bench/out/ring_bench by default.
+Usage: bench/ring.py [PROGRAM]; PROGRAM is the built one, crates/timings/out/timings by default (`rt run` in its folder builds it).
 Wanted: under 5 seconds for 100,000 `put` and `release` one by one, for as many `put` with a `select` and a `release` after
 each 40 of them, and for as many into a full ring with `make_room` before each; twice the calls in twice the time; under
 0.2 ms for a `select` over 4,096 full slots; under 500 MB for a medium of 64 MB. Each KiB written to that medium is synced:
@@ -9,12 +9,12 @@ that twice the size takes twice the time shows that a sync costs what was writte
 """
 from measure import best, program, times
 
-PROGRAM = program("ring_bench")
+PROGRAM = program("timings")
 
 
 def spent(mode, calls):
     took = best([PROGRAM, mode, str(calls)])
-    assert took.said == f"{calls} times\n", took
+    assert took.said.split()[0] == str(calls), took
     return took.elapsed, took.memory
 
 

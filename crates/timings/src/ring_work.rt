@@ -1,21 +1,11 @@
-//! Works a flash ring of 4,096 slots, or a medium, in memory, and prints how often: bench/ring.py times it.
-//!
-//! `ring_bench release N` puts N records, each released before the next; `ring_bench overwrite N` puts N records into a full
-//! ring; `ring_bench rounds N` puts N records into a ring that is half full, and releases a batch after each 40 of them;
-//! `ring_bench select N` selects N batches from a full ring that went round once and a half; `ring_bench medium N` writes
-//! N KiB onto a medium and syncs it after each.
-#![tactic(auto)]
-
 ghost use Rattle.std.specs.Prelude.{◌<◌, IfSome};
 ghost use Rattle.record_codecs.specs.SomeRecord.{IsSomeRecord};
 
-use anyhow::Context;
 use avl_values::{Codec, Rec};
 use flash_ring::{Order, Ring};
 use medium::{Medium, MemoryBench, MemoryMedium};
 use record_codecs::is_record;
 use std::alloc::Global;
-use std::env;
 
 const SLOTS: u16 = 4096;
 
@@ -109,7 +99,8 @@ fn select(ring: &Ring<MemoryBench>, times: u64) -> Option<()> {
     Some(())
 }
 
-fn write_medium(alloc: Global, blocks: u64) -> Option<()> {
+/// Writes so many KiB onto a medium in memory, and syncs it after each.
+pub fn write_medium(alloc: Global, blocks: u64) -> Option<(u64, u64)> {
     let Ok(mut medium) = MemoryMedium::new(alloc, &[], &[]) else {
         return None;
     };
@@ -122,44 +113,32 @@ fn write_medium(alloc: Global, blocks: u64) -> Option<()> {
         medium.write(at, &block).ok()?;
         medium.sync().ok()?;
     }
-    Some(())
+    Some((blocks, blocks))
 }
 
-fn work(alloc: Global, mode: &str, times: u64) -> Option<()> {
-    if mode == "medium" {
-        return write_medium(alloc, times);
-    }
+/// Works a ring of 4,096 slots in memory so many times. `release` puts records, each released before the next; `rounds` puts them
+/// into a ring that is half full, and releases a batch after each 40; `overwrite` puts them into a full ring; `select`
+/// selects batches from a full ring that went round once and a half. Gives the times, and how many records are held at the end.
+pub fn work(alloc: Global, what: &str, times: u64) -> Option<(u64, u64)> {
     let mut ring = formatted(alloc)?;
-    match mode {
-        "release" => put_and_release(&mut ring, times, 1, 30),
+    match what {
+        "release" => put_and_release(&mut ring, times, 1, 30)?,
         "overwrite" => {
             overwrite(&mut ring, 4096)?;
-            overwrite(&mut ring, times)
+            overwrite(&mut ring, times)?
         }
         "rounds" => {
             overwrite(&mut ring, 2048)?;
-            put_and_release(&mut ring, times, 40, 1200)
+            put_and_release(&mut ring, times, 40, 1200)?
         }
         "select" => {
             overwrite(&mut ring, 6144)?;
-            select(&ring, times)
+            select(&ring, times)?
         }
-        _ => None,
+        _ => return None,
     }
-}
-
-fn main(rt: HostRuntime) -> anyhow::Result<()> {
-    let words = env::args(&rt)?.skip(1);
-    let mut mode = None;
-    let mut times: u64 = 0;
-    for word in words {
-        match &mode {
-            None => mode = Some(word),
-            Some(_) => times = word.as_str().parse().context("a number")?,
-        }
+    if ring.is_down() {
+        return None;
     }
-    let mode = mode.context("what to do")?;
-    work(rt.alloc(), mode.as_str(), times).context("all passes")?;
-    println!(rt; "{} times", times)?;
-    Ok(())
+    Some((times, ring.held() as u64))
 }

@@ -1,13 +1,7 @@
-//! Makes as many fixes as its one argument says over eight I/O settings, a second apart, and prints how many records came:
-//! bench/acquisition.py times it.
-#![tactic(auto)]
-
 use acquisition::{Acquirer, Fix, Settings};
-use anyhow::Context;
 use arrayvec::ArrayVec;
 use avl_values::{Codec, Gps};
 use io_operands::{IoSetting, Operand};
-use std::env;
 
 /// Seven elements that are carried, and one that makes a record where it changes.
 fn settings() -> Option<Settings> {
@@ -45,8 +39,9 @@ fn fix_at(second: u64) -> Fix {
     fix
 }
 
-fn records_of(settings: Settings, fixes: u64) -> u64 {
-    let mut acquirer = Acquirer::new(settings);
+/// Acquires over so many fixes, a second apart, with eight I/O settings; the fixes, and how many records came.
+pub fn acquire(fixes: u64) -> Option<(u64, u64)> {
+    let mut acquirer = Acquirer::new(settings()?);
     let mut records: u64 = 0;
     for second in 0..fixes {
         let fix = fix_at(second);
@@ -54,15 +49,5 @@ fn records_of(settings: Settings, fixes: u64) -> u64 {
             records = records.saturating_add(acquirer.fix(&fix).len() as u64);
         }
     }
-    records
-}
-
-fn main(rt: HostRuntime) -> anyhow::Result<()> {
-    let mut fixes: u64 = 0;
-    for word in env::args(&rt)?.skip(1) {
-        fixes = word.as_str().parse().context("a number of fixes")?;
-    }
-    let settings = settings().context("settings")?;
-    println!(rt; "{} records", records_of(settings, fixes))?;
-    Ok(())
+    Some((fixes, records))
 }

@@ -1,5 +1,5 @@
 use Rattle.std.proofs.Common.{length}
-use Rattle.frame_bench.proofs.push.Given as goal
+use Rattle.timings.proofs.frame_work.push.Given as goal
 
 abbrev pub decreases-loop-rest : goal.decreases-loop-rest
 decreases-loop-rest l = length l.rest

@@ -1,0 +1,69 @@
+//! Works a part of the product over and over, so that the scripts of bench/ can time it: `timings WHAT [N [N [N]]]` prints two
+//! numbers that say what was done. Without words it does a little of everything.
+#![tactic(auto)]
+
+mod acquisition_work;
+mod archive_work;
+mod bodies;
+mod codec_work;
+mod frame_work;
+mod line_work;
+mod ring_work;
+
+use anyhow::Context;
+use std::alloc::Global;
+use std::env;
+
+/// A little of everything.
+const SAMPLES: [(&str, [u64; 3]); 9] = [
+    ("codecs", [112, 1, 0]),
+    ("frames", [2, 1460, 0]),
+    ("lines", [7, 3, 0]),
+    ("acquisition", [1000, 0, 0]),
+    ("archive", [5, 2, 1]),
+    ("release", [4, 0, 0]),
+    ("rounds", [40, 0, 0]),
+    ("overwrite", [4, 0, 0]),
+    ("medium", [4, 0, 0]),
+];
+
+/// Does what the word says, and gives its two numbers; None for another word, or out of memory.
+fn work(alloc: Global, what: &str, numbers: [u64; 3]) -> Option<(u64, u64)> {
+    let [first, second, third] = numbers;
+    match what {
+        "codecs" => codec_work::judge_packets(alloc, first, second),
+        "frames" => frame_work::read_stream(alloc, first, second),
+        "lines" => line_work::write_lines(alloc, first, second),
+        "acquisition" => acquisition_work::acquire(first),
+        "archive" => archive_work::archive(alloc, first, second, third),
+        "medium" => ring_work::write_medium(alloc, first),
+        _ => ring_work::work(alloc, what, first),
+    }
+}
+
+fn main(rt: HostRuntime) -> anyhow::Result<()> {
+    let mut what = None;
+    let mut numbers = [0; 3];
+    let mut given = 0;
+    for word in env::args(&rt)?.skip(1) {
+        if what.is_none() {
+            what = Some(word);
+        } else if given < 3 {
+            numbers[given] = word.as_str().parse().context("a number")?;
+            given += 1;
+        }
+    }
+    match what {
+        Some(what) => {
+            let (first, second) = work(rt.alloc(), what.as_str(), numbers).context("all of it")?;
+            println!(rt; "{first} {second}")?;
+        }
+        None => {
+            for (what, numbers) in SAMPLES {
+                let (first, second) = work(rt.alloc(), what, numbers).context("all of it")?;
+                println!(rt; "{what} {first} {second}")?;
+            }
+        }
+    }
+    Ok(())
+}
