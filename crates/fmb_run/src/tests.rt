@@ -5,6 +5,7 @@ use crate::{run, run_trial};
 use avl_values::NoMemory;
 use fmb_host::{Host, MemoryHost, MemorySink, MemorySource};
 use std::alloc::Global;
+use trial_model::{DeviceEnd, Outcome, ServerEnd};
 
 fn first_round() -> &'static str {
     "\
@@ -59,6 +60,21 @@ connection 1 356307042441013 device done 3 server ended up 122 122 down 5 5
 
 fn device_line() -> &'static str {
     "device 356307042441013 8 16 oldest 1000 0 0 0 known\n"
+}
+
+fn one_fix() -> &'static str {
+    "\
+device 356307042441013 8 16 oldest 1000 0 0 0 known
+fix 356307042441013 1560161086000 0 0 0 0 0 0 0
+"
+}
+
+fn one_fix_report() -> &'static str {
+    "\
+device 356307042441013 acquired 1 cut 0 overwritten 0 flash 1 archived 0
+acquired 356307042441013 8 0000016b40d8ea3000000000000000000000000000000000000000000000
+flash 356307042441013 8 0000016b40d8ea3000000000000000000000000000000000000000000000
+"
 }
 
 fn with_power() -> &'static str {
@@ -366,6 +382,7 @@ fn scripts_and_words_are_answered_as_written_down(rt: HostRuntime) {
             "device 356307042441013 acquired 0 cut 0 overwritten 0 flash 0 archived 0\n",
         ),
         ("trial first", repeated_fix(), 0, repeated_fix_report()),
+        ("trial first", one_fix(), 0, one_fix_report()),
         ("trial first", with_power(), 3, "refused line 2 NotBuilt\n"),
         ("trial first", two_rounds(), 3, "refused line 4 NotBuilt\n"),
         ("", first_round(), 2, "refused words\n"),
@@ -381,6 +398,58 @@ fn scripts_and_words_are_answered_as_written_down(rt: HostRuntime) {
     let answer = run_brief(rt.alloc()).expect(&rt, "memory");
     assert_eq!(rt; answer.status, 0);
     assert_eq!(rt; answer.printed.as_slice(), brief_report().as_bytes());
+}
+
+/// What goes up: the login, then one frame of three records without elements at these times, all else in them zero.
+fn sent_up(alloc: Global, times: [u64; 3], checksum: [u8; 2]) -> Result<Vec<u8>, NoMemory> {
+    let mut up = Vec::new(alloc);
+    up.extend_from_slice(b"\x00\x0f356307042441013")?;
+    up.extend_from_slice(&[0, 0, 0, 0, 0, 0, 0, 93, 8, 3])?;
+    for time in times {
+        up.extend_from_slice(&time.to_be_bytes())?;
+        up.extend_from_slice(&[0; 22])?;
+    }
+    up.extend_from_slice(&[3, 0, 0])?;
+    up.extend_from_slice(&checksum)?;
+    Ok(up)
+}
+
+/// Whether one connection was made, sent these bytes up, and ended well both ways with three records counted.
+fn is_counted(outcome: &Outcome, up: &[u8]) -> bool {
+    if outcome.connections() != 1 {
+        return false;
+    }
+    let connection = outcome.connection_at(0);
+    connection.up.as_slice() == up
+        && connection.up_given == 122
+        && connection.down.as_slice() == [1, 0, 0, 0, 3].as_slice()
+        && connection.down_given == 5
+        && connection.device == DeviceEnd::Done(3)
+        && connection.server == ServerEnd::Ended
+}
+
+/// Plays the script; whether its outcome has this one connection.
+fn plays(alloc: Global, script: &str, up: &[u8]) -> Result<bool, NoMemory> {
+    let mut host = host_of(alloc, script, &[], &[], &[], 1_000)?;
+    let _status = run_trial(alloc, &mut host, "script", true);
+    Ok(
+        host.outcome()
+            .is_some_and(|outcome| is_counted(outcome, up)),
+    )
+}
+
+#[test]
+fn one_frame_goes_up_and_is_counted(rt: HostRuntime) {
+    let last = 0x16b_40d8_f200;
+    let cases = [
+        (first_round(), last, [0x68, 0x3b]),
+        (repeated_fix(), 0x16b_40d8_ea30, [0x49, 0x91]),
+    ];
+    for (script, third, checksum) in cases {
+        let times = [0x16b_40d8_ea30, 0x16b_40d8_ee18, third];
+        let up = sent_up(rt.alloc(), times, checksum).expect(&rt, "memory");
+        assert!(rt; plays(rt.alloc(), script, &up).expect(&rt, "memory"));
+    }
 }
 
 #[test]

@@ -8,8 +8,6 @@ mod ends;
 mod pieces;
 mod refused;
 mod report;
-#[cfg(test)]
-mod tests;
 
 pub use refused::refused_text;
 pub use report::report_text;

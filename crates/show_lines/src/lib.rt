@@ -16,6 +16,3 @@ pub use item::{Item, push_line};
 pub use laws::record_is_read;
 pub use packet::push_packet_lines;
 pub use record::push_record_line;
-
-#[cfg(test)]
-mod tests;

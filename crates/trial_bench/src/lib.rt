@@ -18,6 +18,3 @@ mod trial;
 
 pub use fault::{PlainFault, PlainKind};
 pub use trial::plain_trial;
-
-#[cfg(test)]
-mod tests;

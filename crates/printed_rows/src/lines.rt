@@ -1,8 +1,8 @@
 //! The lines of Teltonika's examples, and of small items.
-use crate::{Item, push_command_line, push_line, push_packet_lines, push_record_line};
 use avl_values::{Codec, Fault, FaultKind, Imei};
 use command_codecs::Command;
 use record_codecs::PacketHead;
+use show_lines::{Item, push_command_line, push_line, push_packet_lines, push_record_line};
 use std::test::Fail;
 
 fn imei(number: u64) -> Result<Imei, Fail> {

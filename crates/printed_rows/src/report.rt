@@ -1,5 +1,5 @@
-use crate::{refused_text, report_text};
 use avl_values::{ByteList, Codec, Imei, NoMemory, Rec, RecList, WideList, WideRec};
+use fmb_text::{refused_text, report_text};
 use std::alloc::Global;
 use trial_model::{ConnectionOutcome, DeviceEnd, DeviceOutcome, Outcome, ServerEnd};
 
