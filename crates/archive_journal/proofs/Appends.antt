@@ -2,8 +2,9 @@
 use Rattle.std.proofs.Common.{◌≡◌, ◌≢◌, inl, inr, ℕ, ◌+◌, ◌<◌, true, List, [], ◌∷◌, ◌++◌, length, get_or, take, drop, Option, Some, None, sym, ◌∙◌, ap, refl, subst, arith, length-append, length-take, length-drop}
 use Rattle.std.proofs.lemmas.Bool.{cases_eq}
 use Rattle.std.proofs.lemmas.List.{ext_get_or, get_or-take, get_or-drop, get_or_append_left, get_or_at, drop-drop, take-take}
-use Rattle.medium_model.specs.Content.{Content, IsImage, settled, written, after_write, after_sync}
-use Rattle.medium_model.specs.State.{IfTold, EveryImage, TornWrite, told}
+use Rattle.medium_model.specs.Content.{Content, settled, written, after_write, after_sync}
+use Rattle.medium_model.specs.State.{IfTold, TornWrite, told}
+use Rattle.medium_model.specs.PowerLoss.{IsImage, EveryImage}
 use Rattle.medium_model.proofs.Images.{SameOutside, WritesWithin, image-settled, written-outside, told-map, images-written, images-torn}
 use Rattle.medium_model.proofs.Written.{length-written, get_or-written_before, get_or-written_there}
 use Rattle.archive_journal.specs.Body.{EntryValue, is_body, entry_in}

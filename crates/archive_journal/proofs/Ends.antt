@@ -2,8 +2,9 @@
 use Rattle.std.proofs.Common.{◌≡◌, ◌≢◌, ◌⊎◌, inl, inr, ℕ, ◌+◌, ◌-◌, ◌<◌, ◌≤◌, ◌^◌, List, [], ◌∷◌, ◌++◌, length, get_or, take, drop, replicate, Option, Some, None, sym, ◌∙◌, ap, refl, subst, arith, length-take, length-drop}
 use Rattle.std.proofs.lemmas.Bool.{cases_eq, cases_lt}
 use Rattle.std.proofs.lemmas.List.{ext_get_or, get_or-take}
-use Rattle.medium_model.specs.Content.{Content, IsImage, settled, written, after_write, after_sync}
-use Rattle.medium_model.specs.State.{IfTold, EveryImage, TornWrite, told}
+use Rattle.medium_model.specs.Content.{Content, settled, written, after_write, after_sync}
+use Rattle.medium_model.specs.State.{IfTold, TornWrite, told}
+use Rattle.medium_model.specs.PowerLoss.{IsImage, EveryImage}
 use Rattle.medium_model.proofs.Images.{SameOutside, WritesWithin, image-settled, written-outside, images-written, images-torn, told-map}
 use Rattle.medium_model.proofs.Written.{get_or-written_there}
 use Rattle.archive_journal.specs.Body.{EntryValue}

@@ -1,8 +1,9 @@
 -- What a write from a place on leaves, where all that was read was durable: everything in front of that place stays.
 use Rattle.std.proofs.Common.{◌≡◌, ℕ, ◌+◌, ◌<◌, ◌≤◌, max, Bool, true, false, List, [], length, get_or, take, replicate, Option, Some, None, sym, ◌∙◌, ap, subst, arith, length-take}
 use Rattle.std.proofs.lemmas.List.{ext_get_or, get_or-take, length-replicate}
-use Rattle.medium_model.specs.Content.{Content, IsImage, settled, after_write, written}
-use Rattle.medium_model.specs.State.{EveryImage, IfTold, TornWrite, told}
+use Rattle.medium_model.specs.Content.{Content, settled, after_write, written}
+use Rattle.medium_model.specs.State.{IfTold, TornWrite, told}
+use Rattle.medium_model.specs.PowerLoss.{IsImage, EveryImage}
 use Rattle.medium_model.proofs.Written.{length-written, get_or-written_before}
 
 -- Bytes that agree in front of the place, and whose end is between the old one and that of the write.

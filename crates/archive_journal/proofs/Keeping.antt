@@ -1,7 +1,8 @@
 -- Opening keeps the entries that a power loss might have left.
 use Rattle.std.proofs.Common.{◌≡◌, ℕ, ◌≤◌, List, [], length, Option, Some, None, sym, ◌∙◌, ap, refl, subst}
-use Rattle.medium_model.specs.Content.{Content, IsImage, after_sync}
-use Rattle.medium_model.specs.State.{IfTold, EveryImage, told}
+use Rattle.medium_model.specs.Content.{Content, after_sync}
+use Rattle.medium_model.specs.State.{IfTold, told}
+use Rattle.medium_model.specs.PowerLoss.{IsImage, EveryImage}
 use Rattle.medium_model.proofs.Images.{image-settled}
 use Rattle.archive_journal.specs.Body.{EntryValue}
 use Rattle.archive_journal.specs.Entries.{entries_of, IsArchive}

@@ -3,7 +3,8 @@ use Rattle.std.specs.Prelude.{◌≡◌, ℕ, ◌+◌, ◌≤◌, Bool, false, L
 use Rattle.avl_values.specs.Causes.{Rose}
 use Rattle.medium_model.specs.CallsLeft.{unlimited}
 use Rattle.medium_model.specs.Content.{Content, settled}
-use Rattle.medium_model.specs.State.{MediumState, IfTold, EveryImage, WasImage, Counted}
+use Rattle.medium_model.specs.State.{MediumState, IfTold, Counted}
+use Rattle.medium_model.specs.PowerLoss.{EveryImage, WasImage}
 use Rattle.archive_journal.specs.Body.{EntryValue}
 use Rattle.archive_journal.specs.Entries.{entries_of, IsArchive}
 

@@ -2,7 +2,8 @@ ghost use Rattle.std.specs.Prelude.{◌≡◌, ◌⊎◌, ◌↔◌, ◌+◌, �
 ghost use Rattle.avl_values.specs.Causes.{Rose};
 ghost use Rattle.medium_model.specs.CallsLeft.{MayFail, after, unlimited};
 ghost use Rattle.medium_model.specs.Content.{after_sync};
-ghost use Rattle.medium_model.specs.State.{Counted, EveryImage, IfTold, told};
+ghost use Rattle.medium_model.specs.State.{Counted, IfTold, told};
+ghost use Rattle.medium_model.specs.PowerLoss.{EveryImage};
 ghost use Rattle.archive_journal.specs.Body.{entry_in, is_body};
 ghost use Rattle.archive_journal.specs.Entries.{IsArchive, entries_of};
 ghost use Rattle.archive_journal.specs.Journal.{EachHolds, HasRoom, IsDurable, IsEither, IsRun, KeepsEntries, after_body, entries_told, with_entry};

@@ -1,7 +1,8 @@
 //! A medium taken over as an archive.
 ghost use Rattle.std.specs.Prelude.{◌≡◌, ◌≢◌, ◌+◌, ◌<◌, ◌≤◌, ◌^◌, ◌⊎◌, ◌↔◌, [], true, false, Some, take, drop, length, get_or, IfOk, OnOk, OnErr, IsErr, IsErrOf, IsTrue};
-ghost use Rattle.medium_model.specs.Content.{IsImage, after_sync, settled};
-ghost use Rattle.medium_model.specs.State.{EveryImage, IfTold, told};
+ghost use Rattle.medium_model.specs.Content.{after_sync, settled};
+ghost use Rattle.medium_model.specs.State.{IfTold, told};
+ghost use Rattle.medium_model.specs.PowerLoss.{IsImage, EveryImage};
 ghost use Rattle.archive_journal.specs.Entries.{IsArchive, entries_of, is_entry, magic};
 ghost use Rattle.archive_journal.specs.Journal.{HoldsWith, IsRun, IsTold, KeepsEntries, entries_told};
 ghost use Rattle.archive_journal.specs.Places.{IsClosed, IsSmall, StandIn};

@@ -1,7 +1,8 @@
 //! The calls that write: an append, an empty archive, and the closing of a last gate.
 ghost use Rattle.std.specs.Prelude.{◌≡◌, ◌≢◌, ◌+◌, ◌++◌, ◌<◌, ◌≤◌, ◌^◌, ◌∷◌, [], true, Some, length, get_or, IfOk, OnOk, IsErr};
 ghost use Rattle.std.specs.Vec.{vec_capacity};
-ghost use Rattle.medium_model.specs.State.{Counted, EveryImage, IfTold};
+ghost use Rattle.medium_model.specs.State.{Counted, IfTold};
+ghost use Rattle.medium_model.specs.PowerLoss.{EveryImage};
 ghost use Rattle.archive_journal.specs.Body.{entry_in, is_body};
 ghost use Rattle.archive_journal.specs.Journal.{HoldsWith, IsEither, IsTold, entries_told, with_entry};
 ghost use Rattle.archive_journal.specs.Places.{IsClosed, IsOpen, IsSmall};

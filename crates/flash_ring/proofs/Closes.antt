@@ -5,13 +5,16 @@ use Rattle.std.proofs.lemmas.Bool.Decides.{eqb_tells}
 use Rattle.std.proofs.lemmas.List.{ext_get_or, get_or_past, take_more, take_all}
 use Rattle.std.proofs.lemmas.Option.{get_or_from_slice_get, slice_get_within, slice_get-get_or, slice_get_past}
 use Rattle.medium_model.specs.CallsLeft.{CallsLeft, unknown, unlimited, after, exhausted, Passes, Fails}
-use Rattle.medium_model.specs.Content.{Content, IsImage, written, after_write, after_sync}
-use Rattle.medium_model.specs.State.{MediumState, IfTold, EveryImage, TornWrite, Counted, told}
+use Rattle.medium_model.specs.Content.{Content, written, after_write, after_sync}
+use Rattle.medium_model.specs.State.{MediumState, IfTold, TornWrite, Counted, told}
+use Rattle.medium_model.specs.PowerLoss.{IsImage, EveryImage}
 use Rattle.medium_model.proofs.Images.{SameOutside, written-outside, counted-then}
+use Rattle.medium_model.proofs.Images.{holds-map as images-map}
 use Rattle.medium_model.proofs.Written.{length-written, get_or-written_before, get_or-written_there, get_or-written_behind}
 use Rattle.flash_ring.specs.Held.{Held, closed_all}
 use Rattle.flash_ring.specs.Slot.{slot_of, slot_bytes, slots_of, IsFlash, HoldsSound}
-use Rattle.flash_ring.specs.Images.{IsSettled, HoldsWith, IsEither, unchanged, changed, MayClose, OthersStay, AreOpen, has_slot, reached}
+use Rattle.flash_ring.specs.Images.{IsSettled, HoldsWith, MayClose, OthersStay, AreOpen, has_slot, reached}
+use Rattle.medium_model.specs.Images.{IsEither, unchanged, changed}
 use Rattle.flash_ring.proofs.Slots.{slot_bytes-at, slot_bytes-same, slots_of-at, length-slots_of, slot_of-closed, gate-open}
 use Rattle.flash_ring.proofs.Stores.{settled_images}
 use Rattle.flash_ring.proofs.Writes.{flash-set, slots-set, others-outside}
@@ -135,7 +138,7 @@ module _ (n : ℕ) (before : List (Option Held)) (ks : List ℕ) (base : List �
   image-shut =
       let count : length before ≡ n = ap length (sym shut.holds) ∙ length-slots_of n base in
       record {
-        flash = record {
+        sound = record {
           size = image_size ∙ shut.flash.size;
           sound = λ k low gate. elim (image_slot k low) as (λ _. HoldsSound (slot_of (slot_bytes k image))) [
             | inl same ↦ subst HoldsSound (ap slot_of (sym same)) (shut.flash.sound k low (ap (λ (b : List ℕ). get_or b 0 0) (sym same) ∙ gate))
@@ -222,13 +225,13 @@ shut-first n before (Some c) was = (
   c,
   refl,
   record {
-    flash = was.flash;
+    flash = was.sound;
     holds = was.holds;
     durable = ap (λ (d : Content). d.durable) was.rest;
     ends = let e = ap (λ (d : Content). length d.dirty) was.rest in omega (arith, e);
     gates = λ p marked. absurd (false≢true (sym (ap (λ (d : Content). get_or d.dirty p false) was.rest) ∙ marked));
   },
-  record { flash = was.flash; holds = was.holds; others = λ j out. refl },
+  record { flash = was.sound; holds = was.holds; others = λ j out. refl },
 )
 
 pub shut-more : (n : ℕ) (before : List (Option Held)) (ks : List ℕ) (told0 told1 told2 : Option Content) (k : ℕ) → k < n → Shut n before ks told0 told1
@@ -266,7 +269,7 @@ shut-settled n before ks None told1 told2 was done =
     let P : Option Content → Type 0 = λ o. IfTold o (IsSettled n (closed_all ks before)) in subst P (sym (done ∙ ap (told after_sync) was)) tt
 shut-settled n before ks (Some first) told1 told2 (c, is, gates, reads) done =
     let P : Option Content → Type 0 = λ o. IfTold o (IsSettled n (closed_all ks before)) in
-    subst P (sym (done ∙ ap (told after_sync) is)) (record { rest = refl; flash = reads.flash; holds = reads.holds })
+    subst P (sym (done ∙ ap (told after_sync) is)) (record { rest = refl; sound = reads.flash; holds = reads.holds })
 
 pub shut-others : (n : ℕ) (before : List (Option Held)) (ks : List ℕ) (told0 told1 told2 : Option Content) → Shut n before ks told0 told1 → told2 ≡ told after_sync told1
     → OthersStay ks told0 told2
@@ -351,8 +354,7 @@ gate-ready xs held i ready now opens low enough later =
 
 -- what holds of the slots of each image, weakened
 pub holds-map : (n : ℕ) (o : Option Content) (P Q : List (Option Held) → Type 0) → ((left : List (Option Held)) → P left → Q left) → EveryImage o (HoldsWith n P) → EveryImage o (HoldsWith n Q)
-holds-map n None P Q so every = tt
-holds-map n (Some c) P Q so every = λ image im. let h = every image im in record { flash = h.flash; holds = so (slots_of n image) h.holds }
+holds-map n o P Q so every = images-map (IsFlash n) (slots_of n) P Q o so every
 
 -- The exits of the call that closes slots: i gates were written.
 module _ (held : List (Option Held)) (xs : List ℕ) (opens : AreOpen xs held) (start now then_ : MediumState) (i : ℕ)

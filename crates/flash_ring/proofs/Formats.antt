@@ -2,7 +2,8 @@
 use Rattle.std.proofs.Common.{◌≡◌, ℕ, ◌+◌, ◌-◌, ◌*◌, List, ◌++◌, length, take, drop, replicate, Option, Some, None, sym, ◌∙◌, ap, subst, arith}
 use Rattle.std.proofs.lemmas.List.{append-nil, take_all, drop_all, length-replicate, replicate-append-replicate}
 use Rattle.medium_model.specs.Content.{Content, settled, written, filled, after_write, after_sync}
-use Rattle.medium_model.specs.State.{IfTold, EveryImage, told}
+use Rattle.medium_model.specs.State.{IfTold, told}
+use Rattle.medium_model.specs.PowerLoss.{EveryImage}
 use Rattle.medium_model.proofs.Images.{image-settled}
 
 -- what is written right behind the end

@@ -5,6 +5,7 @@ pub mod Formats
 pub mod Laws
 pub mod Loads
 pub mod Ranks
+pub mod Restarts
 pub mod Rings
 pub mod Sequences
 pub mod Slots

@@ -6,18 +6,21 @@ use Rattle.std.proofs.lemmas.Option.{get_or_from_slice_get, slice_get_within, sl
 use Rattle.medium_model.specs.State.{MediumState, IfTold}
 use Rattle.record_codecs.specs.SomeRecord.{IsSomeRecord}
 use Rattle.flash_ring.specs.Held.{Held, IsSoundHeld, AreSound, AreBelow, first_closed, is_full, next_of, closed_all, rec_in, rec_at}
-use Rattle.flash_ring.specs.Images.{IsSettled, IsEither, unchanged, AreOpen}
+use Rattle.flash_ring.specs.Images.{IsSettled, AreOpen}
+use Rattle.medium_model.specs.Images.{IsEither, IsSame, unchanged}
 use Rattle.flash_ring.specs.Ring.{RingView, IsUp, IsRing, IsDurable, EachHolds}
 use Rattle.flash_ring.proofs.Closes.{length-closed_all, only_here, holds-map}
 use Rattle.avl_values.specs.declared.order.Order.TheVariants.{Oldest}
 use Rattle.flash_ring.specs.Entries.{Entry, IsOldest, entries_of, first_slot, held_of, rec_of, with_room, without_first}
 use Rattle.flash_ring.proofs.Entries.{Each, IsEntry, entries-open, oldest_there}
 use Rattle.flash_ring.proofs.Stores.{settled_images}
+use Rattle.flash_ring.specs.Slot.{IsFlash, slots_of}
+use Rattle.medium_model.proofs.Images.{durable-settled}
 
 pub durable_up : (v : RingView) → IsUp v → v.down ≡ false → IsDurable v
 durable_up v is up = record {
   up = up;
-  same = settled_images (length v.slots) v.slots v.medium.content (λ left. left ≡ v.slots) (λ left same. same) is.settled;
+  medium = durable-settled (IsFlash (length v.slots)) (slots_of (length v.slots)) (IsSame v.slots) v.medium is.settled;
   sound = is.sound;
   below = is.below;
 }
@@ -224,4 +227,4 @@ oldest_room slots k is =
     not_full (set slots k None) k (omega (arith, length-set slots k None)) (get_or-set_same slots k None None low)
 
 pub either_durable : (v : RingView) (after : List (Option Held)) → IsDurable v → EachHolds v (IsEither v.slots after)
-either_durable v after is = holds-map (length v.slots) v.medium.content (λ left. left ≡ v.slots) (IsEither v.slots after) (λ left same. unchanged same) is.same
+either_durable v after is = holds-map (length v.slots) v.medium.content (λ left. left ≡ v.slots) (IsEither v.slots after) (λ left same. unchanged same) is.medium.same

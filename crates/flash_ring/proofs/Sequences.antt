@@ -1,13 +1,13 @@
 -- Sequences that stand once in a ring over a formatted medium, and stay so by each call and over each power loss.
 use Rattle.std.proofs.Common.{◌≡◌, ◌⊎◌, inl, inr, ℕ, zero, suc, ◌+◌, ◌*◌, ◌<◌, if◌then◌else◌, true, false, List, [], ◌∷◌, length, get_or, set, replicate, Option, Some, None, slice_get, IsSome, sym, ◌∙◌, ap, refl, subst, arith, length-set, get_or-set_same, get_or-set_other}
 use Rattle.std.proofs.lemmas.Option.{slice_get-get_or, slice_get_within, get_or_from_slice_get}
-use Rattle.std.proofs.lemmas.Bool.{cases_eq, false≢true}
-use Rattle.medium_model.specs.Content.{Content}
-use Rattle.medium_model.specs.State.{EveryImage, WasImage}
+use Rattle.std.proofs.lemmas.Bool.{cases_eq}
+use Rattle.medium_model.proofs.Images.{every-at}
 use Rattle.avl_values.specs.declared.order.Order.TheVariants.{Oldest}
 use Rattle.flash_ring.specs.Entries.{Entry, entries_of, with_room, without_first}
 use Rattle.flash_ring.specs.Held.{Held, AreBelow, closed_all, first_closed, is_full, put_in}
-use Rattle.flash_ring.specs.Images.{HoldsWith, IsEither, MayClose, unchanged, changed}
+use Rattle.flash_ring.specs.Images.{HoldsWith, MayClose}
+use Rattle.medium_model.specs.Images.{IsEither, unchanged, changed}
 use Rattle.flash_ring.specs.Records.{HasDistinctSeqs}
 use Rattle.flash_ring.specs.Ring.{RingView, EachHolds, MayHold}
 use Rattle.flash_ring.specs.Slot.{slot_bytes, slots_of}
@@ -100,8 +100,4 @@ distinct-either before after left either were are = elim either as (λ _. HasDis
 
 -- What each image of a ring over a medium that tells its content has, is true of what a restart may hold.
 pub restart-has : (v : RingView) (P : List (Option Held) → Type 0) (left : List (Option Held)) → IsSome v.medium.content → EachHolds v P → MayHold v left → P left
-restart-has v P left told every may = of_content v.medium.content told every may.was
-  where
-    of_content : (o : Option Content) → IsSome o → EveryImage o (HoldsWith (length v.slots) P) → WasImage o may.image → P left
-    of_content None told every was = absurd (false≢true told)
-    of_content (Some c) told every was = subst P may.holds (every may.image was).holds
+restart-has v P left told every may = subst P may.holds (every-at v.medium.content (HoldsWith (length v.slots) P) may.image told every may.was).holds

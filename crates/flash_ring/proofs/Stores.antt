@@ -2,13 +2,15 @@
 use Rattle.std.proofs.Common.{◌≡◌, ◌≢◌, ◌⊎◌, inl, inr, ℕ, ◌+◌, ◌*◌, ◌<◌, ◌≤◌, List, [], ◌∷◌, length, get_or, set, Option, Some, None, slice_get, sym, ◌∙◌, ap, refl, subst, arith, mul-le-mul_left}
 use Rattle.std.proofs.lemmas.Bool.Decides.{nat_tests}
 use Rattle.std.proofs.lemmas.Option.{slice_get_within}
-use Rattle.medium_model.specs.Content.{Content, IsImage, settled, written, after_write, after_sync}
-use Rattle.medium_model.specs.State.{IfTold, EveryImage, TornWrite, told}
-use Rattle.medium_model.proofs.Images.{SameOutside, WritesWithin, image-settled, written-outside, told-map, images-written, images-torn}
+use Rattle.medium_model.specs.Content.{Content, settled, written, after_write, after_sync}
+use Rattle.medium_model.specs.State.{IfTold, TornWrite, told}
+use Rattle.medium_model.specs.PowerLoss.{EveryImage}
+use Rattle.medium_model.proofs.Images.{SameOutside, WritesWithin, settled-images, written-outside, told-map, images-written, images-torn}
 use Rattle.medium_model.proofs.Written.{get_or-written_there}
 use Rattle.flash_ring.specs.Held.{Held, IsSoundHeld}
 use Rattle.flash_ring.specs.Slot.{body_of, slot_bytes, slots_of, IsFlash}
-use Rattle.flash_ring.specs.Images.{IsSettled, HoldsWith, IsEither, unchanged, changed, OthersStay}
+use Rattle.flash_ring.specs.Images.{IsSettled, HoldsWith, OthersStay}
+use Rattle.medium_model.specs.Images.{IsEither, IsSame, unchanged, changed}
 use Rattle.flash_ring.proofs.Slots.{slot_bytes-at}
 use Rattle.flash_ring.proofs.Writes.{length-body_of, body-flash, body-slots, body-outside, gate-flash, gate-slots, gate-stored, others-outside, ends}
 
@@ -26,11 +28,7 @@ either before after left (inr other) = changed other
 -- What is settled is in each image.
 pub settled_images : (n : ℕ) (slots : List (Option Held)) (o : Option Content) (P : List (Option Held) → Type 0) → ((left : List (Option Held)) → left ≡ slots → P left)
     → IfTold o (IsSettled n slots) → EveryImage o (HoldsWith n P)
-settled_images n slots None P so is = tt
-settled_images n slots (Some c) P so is = λ image im.
-    let Q : Content → Type 0 = λ d. IsImage d image in
-    let same = image-settled c.reads image (subst Q is.rest im) in
-    record { flash = subst (IsFlash n) (sym same) is.flash; holds = so (slots_of n image) (ap (slots_of n) same ∙ is.holds) }
+settled_images n slots o P so is = settled-images (IsFlash n) (slots_of n) (IsSame slots) P o so is
 
 module _ (n slot : ℕ) (slots : List (Option Held)) (h : Held)
     (low : slot < n) (closed : slice_get slots slot ≡ Some None)
@@ -40,14 +38,14 @@ module _ (n slot : ℕ) (slots : List (Option Held)) (h : Held)
       → WritesWithin at m (HoldsWith n (IsEither slots (set slots slot (Some h)))) c
   body_within at m is_at is_m c was = record {
     rest = was.rest;
-    fits = omega (arith, ends n slot c.reads slots h was.flash was.holds low closed fits sound);
+    fits = omega (arith, ends n slot c.reads slots h was.sound was.holds low closed fits sound);
     each = λ image same0.
         let P : ℕ → Type 0 = λ k. SameOutside k m c.reads image in
         let Q : ℕ → Type 0 = λ k. SameOutside (272 * slot + 1) k c.reads image in
         let same = subst Q is_m (subst P is_at same0) in
         record {
-          flash = body-flash n slot c.reads slots was.flash was.holds low closed image same;
-          holds = unchanged (body-slots n slot c.reads slots was.flash was.holds low closed image same);
+          sound = body-flash n slot c.reads slots was.sound was.holds low closed image same;
+          holds = unchanged (body-slots n slot c.reads slots was.sound was.holds low closed image same);
         };
   }
 
@@ -70,7 +68,7 @@ module _ (n slot : ℕ) (slots : List (Option Held)) (h : Held)
       let P : Option Content → Type 0 = λ o. IfTold o (HasBody n slot slots h) in
       subst P (sym (synced ∙ ap (told after_sync) wrote)) (record {
         base = c.reads;
-        flash = was.flash;
+        flash = was.sound;
         holds = was.holds;
         is = ap (λ p. settled (written 0 p (body_of h) c.reads)) is_at;
       })
@@ -91,7 +89,7 @@ module _ (n slot : ℕ) (slots : List (Option Held)) (h : Held)
             let R : List ℕ → Type 0 = λ b. SameOutside (272 * slot) 1 b image in
             let same = subst R reads (subst Q is_m (subst P is_at same0)) in
             record {
-              flash = gate-flash n slot base slots h was.flash was.holds low closed fits sound image same;
+              sound = gate-flash n slot base slots h was.flash was.holds low closed fits sound image same;
               holds = either slots (set slots slot (Some h)) _ (gate-slots n slot base slots h was.flash was.holds low closed fits sound image same);
             };
       }
@@ -122,7 +120,7 @@ module _ (n slot : ℕ) (slots : List (Option Held)) (h : Held)
       let P : List ℕ → Type 0 = λ b. IsSettled n (set slots slot (Some h)) (settled (written 0 (272 * slot) (0xA5 ∷ []) b)) in
       subst P (sym reads) (record {
         rest = refl;
-        flash = gate-flash n slot base slots h was.flash was.holds low closed fits sound image same;
+        sound = gate-flash n slot base slots h was.flash was.holds low closed fits sound image same;
         holds = gate-stored n slot base slots h was.flash was.holds low closed fits sound image same gate;
       })
 
@@ -147,7 +145,7 @@ pub stored_others : (n slot : ℕ) (slots : List (Option Held)) (h : Held) → s
 stored_others n slot slots h low fits None told1 told2 told3 told4 at_body at is_body is_at was wrote synced opened done = tt
 stored_others n slot slots h low fits (Some c) told1 told2 told3 told4 at_body at is_body is_at was wrote synced opened done =
     let P : Option Content → Type 0 = λ o. OthersStay (slot ∷ []) (Some c) o in
-    let ends_is : 272 * slot + 272 ≤ length c.reads = (let size = was.flash.size in let m : 272 * (slot + 1) ≤ 272 * n = mul-le-mul_left 272 (omega arith) in omega (arith, m)) in
+    let ends_is : 272 * slot + 272 ≤ length c.reads = (let size = was.sound.size in let m : 272 * (slot + 1) ≤ 272 * n = mul-le-mul_left 272 (omega arith) in omega (arith, m)) in
     let first = written-outside at_body (body_of h) c.reads (omega (arith, length-body_of h fits)) in
     let body = written 0 at_body (body_of h) c.reads in
     let second = written-outside at (0xA5 ∷ []) body (omega (arith, first.size)) in

@@ -1,25 +1,19 @@
 -- What a power loss may leave of a flash, said of its slots.
 use Rattle.std.specs.Prelude.{◌≡◌, ◌⊎◌, ℕ, ◌+◌, ◌==◌, ◌||◌, Bool, false, IsTrue, List, [], ◌∷◌, length, take, slice_get, Option, Some, None}
 use Rattle.medium_model.specs.CallsLeft.{CallsLeft, unknown, unlimited, after, exhausted}
-use Rattle.medium_model.specs.Content.{Content, settled}
+use Rattle.medium_model.specs.Content.{Content}
+use Rattle.medium_model.specs.Images as images
+use Rattle.medium_model.specs.Images.{IsSame}
 use Rattle.flash_ring.specs.Held.{Held}
 use Rattle.flash_ring.specs.Slot.{IsFlash, slot_bytes, slots_of}
 
--- All that is read is durable, and it is n sound slots that hold this.
-pub record IsSettled (n : ℕ) (slots : List (Option Held)) (c : Content) : Type 0 where
-  pub rest : c ≡ settled c.reads
-  pub flash : IsFlash n c.reads
-  pub holds : slots_of n c.reads ≡ slots
+-- all that is read is durable, and it is n sound slots that hold this
+abbrev pub IsSettled : ℕ → List (Option Held) → Content → Type 0
+IsSettled n slots = images.IsSettled (IsFlash n) (slots_of n) (IsSame slots)
 
--- An image is n sound slots, and what they hold has P.
-pub record HoldsWith (n : ℕ) (P : List (Option Held) → Type 0) (image : List ℕ) : Type 0 where
-  pub flash : IsFlash n image
-  pub holds : P (slots_of n image)
-
--- the slots as before, or as after
-pub data IsEither (before after left : List (Option Held)) : Type 0 where
-  unchanged : left ≡ before → IsEither before after left
-  changed : left ≡ after → IsEither before after left
+-- an image is n sound slots, and what they hold has P
+abbrev pub HoldsWith : ℕ → (List (Option Held) → Type 0) → List ℕ → Type 0
+HoldsWith n P = images.HoldsWith (IsFlash n) (slots_of n) P
 
 -- one of these slots is this
 abbrev pub has_slot : List ℕ → ℕ → Bool

@@ -1,6 +1,9 @@
 -- What contracts see of a ring, and what its calls do to it.
 use Rattle.std.specs.Prelude.{◌≡◌, ℕ, ◌*◌, ◌≤◌, ◌<◌, ◌^◌, ◌==◌, if◌then◌else◌, Bool, false, List, length, Option}
-use Rattle.medium_model.specs.State.{MediumState, IfTold, EveryImage, WasImage, Counted}
+use Rattle.medium_model.specs.Images as images
+use Rattle.medium_model.specs.Images.{IsSame}
+use Rattle.medium_model.specs.State.{MediumState, IfTold}
+use Rattle.medium_model.specs.PowerLoss.{EveryImage, WasImage}
 use Rattle.flash_ring.specs.Held.{Held, AreSound, AreBelow, is_full}
 use Rattle.flash_ring.specs.Slot.{IsFlash, slots_of}
 use Rattle.flash_ring.specs.Images.{IsSettled, HoldsWith}
@@ -30,10 +33,10 @@ pub record IsRing (v : RingView) : Type 0 where
 abbrev pub EachHolds : RingView → (List (Option Held) → Type 0) → Type 0
 EachHolds v P = EveryImage v.medium.content (HoldsWith (length v.slots) P)
 
--- The ring is up, and a power loss leaves its slots as they are.
+-- The ring is up; what is read is durable and holds its slots, and so a power loss leaves them as they are.
 pub record IsDurable (v : RingView) : Type 0 where
   pub up : v.down ≡ false
-  pub same : EachHolds v (λ left. left ≡ v.slots)
+  pub medium : images.IsDurable (IsFlash (length v.slots)) (slots_of (length v.slots)) (IsSame v.slots) v.medium
   pub sound : AreSound v.slots
   pub below : AreBelow v.next v.slots
 
@@ -54,14 +57,3 @@ put_calls v = if v.next == 2 ^ 63 then 0 else 4
 -- the medium calls that make room
 abbrev pub room_calls : RingView → ℕ
 room_calls v = if is_full v.slots then 2 else 0
-
--- A run of some calls, at least one, whose number isn't said.
-pub record CountedSome (old new : MediumState) (failed : Type 0) : Type 0 where
-  pub calls : ℕ
-  pub some : 1 ≤ calls
-  pub counted : Counted calls old new failed
-
--- A run of calls, maybe of none.
-pub record CountedMaybe (old new : MediumState) (failed : Type 0) : Type 0 where
-  pub calls : ℕ
-  pub counted : Counted calls old new failed

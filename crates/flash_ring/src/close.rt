@@ -1,11 +1,12 @@
 ghost use Rattle.std.specs.Prelude.{◌≡◌, ◌+◌, ◌*◌, ◌<◌, ◌≤◌, length, OnOk, IsErr};
-ghost use Rattle.medium_model.specs.State.{Counted, EveryImage, IfTold};
+ghost use Rattle.medium_model.specs.State.{Counted, IfTold};
+ghost use Rattle.medium_model.specs.PowerLoss.{EveryImage};
 ghost use Rattle.flash_ring.specs.Held.{closed_all};
 ghost use Rattle.flash_ring.specs.Images.{AreOpen, HoldsWith, IsSettled, MayClose, OthersStay, reached};
 
-use crate::held::{CLOSED, Held};
+use crate::held::{Held, SLOT_BYTES};
 use avl_values::Failed;
-use medium_model::Medium;
+use medium_model::{CLOSED, Medium};
 
 /// Closes slots, each by a write of its gate, in the order given. They are durable together.
 pub fn close_slots<M: Medium>(
@@ -23,7 +24,7 @@ pub fn close_slots<M: Medium>(
     ensures counted { Counted (length slots.now + 1) (M.state medium.old) (M.state medium.new) (IsErr result) }
 {
     for i in 0..slots.len() {
-        medium.write(272 * slots[i] as u64, &[CLOSED])?;
+        medium.write(SLOT_BYTES as u64 * slots[i] as u64, &[CLOSED])?;
     }
     medium.sync()?;
     Ok(())

@@ -1,6 +1,7 @@
 ghost use Rattle.std.specs.Prelude.{◌≡◌, ◌+◌, ◌*◌, ◌≤◌, [], length, replicate, OnOk, IsErr};
 ghost use Rattle.medium_model.specs.Content.{settled};
-ghost use Rattle.medium_model.specs.State.{Counted, EveryImage, IfTold};
+ghost use Rattle.medium_model.specs.State.{Counted, IfTold};
+ghost use Rattle.medium_model.specs.PowerLoss.{EveryImage};
 
 use crate::held::SLOT_BYTES;
 use avl_values::Failed;

@@ -6,17 +6,12 @@ ghost use Rattle.flash_ring.specs.Slot.{HoldsSound, IsSoundSlot, body_of, fields
 
 use arrayvec::ArrayVec;
 use avl_values::{Codec, Rec};
+use medium_model::OPEN;
 use record_codecs::is_record;
 use std::marker::Model;
 
 /// Bytes of a slot.
 pub const SLOT_BYTES: usize = 272;
-
-/// The gate of a slot that holds a record.
-pub const OPEN: u8 = 0xA5;
-
-/// The gate that closes a slot.
-pub const CLOSED: u8 = 0;
 
 const ZEROS: [u8; 261] = [0; 261];
 

@@ -1,9 +1,9 @@
 ghost use Rattle.std.specs.Prelude.{◌≡◌, ◌≢◌, ◌+◌, ◌*◌, ◌<◌, ◌≤◌, ℕ, length, Some, None, IfOk, IfErr, OnOk, OnErr, IsErrOf};
 ghost use Rattle.medium_model.specs.CallsLeft.{Fails};
-ghost use Rattle.medium_model.specs.State.{EveryImage, IfTold, WasImage};
+ghost use Rattle.medium_model.specs.State.{CountedMaybe, CountedSome, IfTold};
+ghost use Rattle.medium_model.specs.PowerLoss.{EveryImage, WasImage};
 ghost use Rattle.flash_ring.specs.Held.{AreSound};
 ghost use Rattle.flash_ring.specs.Images.{IsSettled};
-ghost use Rattle.flash_ring.specs.Ring.{CountedMaybe, CountedSome};
 ghost use Rattle.flash_ring.specs.Refusal.{Refuses, as_open};
 ghost use Rattle.flash_ring.specs.Slot.{IsFlash, slots_of};
 ghost use Rattle.flash_ring.specs.declared.load.ReopenFault.TheVariants.{MediumFault};

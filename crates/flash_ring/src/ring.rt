@@ -3,13 +3,15 @@ ghost use Rattle.avl_values.specs.Causes.{Rose};
 ghost use Rattle.avl_values.specs.Viewed.{record_of};
 ghost use Rattle.medium_model.specs.CallsLeft.{Fails, after, unlimited};
 ghost use Rattle.medium_model.specs.Content.{settled};
-ghost use Rattle.medium_model.specs.State.{Counted, EveryImage, IfTold, WasImage};
+ghost use Rattle.medium_model.specs.State.{CountedSome, Counted, IfTold};
+ghost use Rattle.medium_model.specs.PowerLoss.{EveryImage, WasImage};
 ghost use Rattle.record_codecs.specs.SomeRecord.{IsSomeRecord};
 ghost use Rattle.flash_ring.specs.Entries.{IsOldest, entries_of, first_slot, held_of, selected, with_room};
 ghost use Rattle.flash_ring.specs.Held.{closed_all, first_closed, is_full, next_of, put_in, rec_at};
-ghost use Rattle.flash_ring.specs.Images.{AreDistinct, AreOpen, IsEither, MayClose, OthersStay, reached};
+ghost use Rattle.flash_ring.specs.Images.{AreDistinct, AreOpen, MayClose, OthersStay, reached};
 ghost use Rattle.flash_ring.specs.Refusal.{Refuses, RefusesOpen};
-ghost use Rattle.flash_ring.specs.Ring.{CountedSome, EachHolds, EverySound, IsDurable, MayHold, put_calls, room_calls};
+ghost use Rattle.flash_ring.specs.Ring.{EachHolds, EverySound, IsDurable, MayHold, put_calls, room_calls};
+ghost use Rattle.medium_model.specs.Images.{IsEither};
 ghost use Rattle.flash_ring.specs.Slot.{slots_of};
 
 use crate::Order;

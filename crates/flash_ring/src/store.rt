@@ -1,11 +1,13 @@
 ghost use Rattle.std.specs.Prelude.{◌≡◌, ◌+◌, ◌*◌, ◌<◌, ◌≤◌, [], ◌∷◌, length, set, slice_get, Some, None, OnOk, IsErr};
-ghost use Rattle.medium_model.specs.State.{Counted, EveryImage, IfTold};
+ghost use Rattle.medium_model.specs.State.{Counted, IfTold};
+ghost use Rattle.medium_model.specs.PowerLoss.{EveryImage};
 ghost use Rattle.flash_ring.specs.Held.{IsSoundHeld};
-ghost use Rattle.flash_ring.specs.Images.{HoldsWith, IsEither, IsSettled, OthersStay};
+ghost use Rattle.flash_ring.specs.Images.{HoldsWith, IsSettled, OthersStay};
+ghost use Rattle.medium_model.specs.Images.{IsEither};
 
-use crate::held::{Held, OPEN};
+use crate::held::{Held, SLOT_BYTES};
 use avl_values::Failed;
-use medium_model::Medium;
+use medium_model::{Medium, OPEN};
 
 /// Stores a record in a closed slot: its body is durable before its gate is opened.
 pub fn store<M: Medium>(
@@ -24,7 +26,7 @@ pub fn store<M: Medium>(
     ensures others { OnOk result (OthersStay (slot ∷ []) (M.state medium.old).content (M.state medium.new).content) }
     ensures counted { Counted 4 (M.state medium.old) (M.state medium.new) (IsErr result) }
 {
-    let gate = 272 * slot as u64;
+    let gate = SLOT_BYTES as u64 * slot as u64;
     let body = held.body();
     medium.write(gate + 1, body.as_slice())?;
     medium.sync()?;

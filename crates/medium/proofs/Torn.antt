@@ -1,7 +1,8 @@
 -- What a write does to an image in memory, and that each such image is one that a power loss may leave.
 use Rattle.std.proofs.Common.{◌≡◌, ◌⊎◌, inl, inr, ℕ, ◌+◌, ◌<◌, ◌≤◌, max, ◌/◌, ◌==◌, if◌then◌else◌, Bool, true, false, Result, Ok, Err, OnErr, Some, List, length, get_or, take, replicate, sym, ◌∙◌, ap, refl, subst, arith, length-take}
 use Rattle.std.proofs.lemmas.List.{length-replicate, get_or-replicate}
-use Rattle.medium_model.specs.Content.{Content, IsImage, FailedWrite, after_write, written}
+use Rattle.medium_model.specs.Content.{Content, FailedWrite, after_write, written}
+use Rattle.medium_model.specs.PowerLoss.{IsImage}
 use Rattle.medium_model.specs.State.{TornWrite}
 use Rattle.medium.specs.Buffer.{Buffer, DirtyMarks, Held, IsTornImage, FitTogether, content_of}
 use Rattle.medium.specs.Memory.{Tears, TearsHeld, IsBench, after_torn, torn_write}

@@ -1,17 +1,16 @@
 ghost use Rattle.std.specs.Prelude.{◌≡◌, ◌⊎◌, ◌+◌, ◌-◌, ◌<◌, ◌≤◌, ◌^◌, true, false, min, length, take, drop, IfOk, OnOk, OnErr, IsErr, IsErrOf, IsSome};
 ghost use Rattle.avl_values.specs.Causes.{Rose};
 ghost use Rattle.medium_model.specs.CallsLeft.{MayFail};
-ghost use Rattle.medium_model.specs.Content.{IsImage, after_write, after_sync};
+ghost use Rattle.medium_model.specs.Content.{after_write, after_sync};
+ghost use Rattle.medium_model.specs.PowerLoss.{IsImage};
 ghost use Rattle.medium.specs.File.{file_state};
 ghost use Rattle.medium_model.specs.State.{Counted, IfTold, TornWrite, told};
 
 use avl_values::Failed;
-use medium_model::{Medium, ReserveError};
+use medium_model::{MAX_PLACE, Medium, ReserveError};
 use std::fs;
 use std::marker::Model;
 use std::os::unix::fs::FileExt;
-
-const MAX_PLACE: u64 = 1 << 62;
 
 /// A medium over a file of the operating system. It keeps a count of its failures, and tells nothing of its content: that a
 /// real file behaves as a medium is not proved.
@@ -130,7 +129,6 @@ impl Medium for FileMedium {
         requires ready { at + length from.now ≤ self.old.ready }
         ensures written { OnOk result ((file_state self.new).content ≡ told (after_write at from.now) (file_state self.old).content) }
         ensures torn { OnErr result (TornWrite at (length from.now) (file_state self.old).content (file_state self.new).content) }
-        ensures still_told { IsSome (file_state self.old).content → IsSome (file_state self.new).content }
         ensures counted { Counted 1 (file_state self.old) (file_state self.new) (IsErr result) }
 
         ensures broken { self.old.broken ≡ true → IsErr result }
@@ -149,7 +147,6 @@ impl Medium for FileMedium {
         ensures durable { OnOk result ((file_state self.new).content ≡ told after_sync (file_state self.old).content) }
         ensures was_image { OnOk result (IfTold (file_state self.old).content (λ c. IsImage c c.reads)) }
         ensures unchanged { OnErr result ((file_state self.new).content ≡ (file_state self.old).content) }
-        ensures still_told { IsSome (file_state self.old).content → IsSome (file_state self.new).content }
         ensures counted { Counted 1 (file_state self.old) (file_state self.new) (IsErr result) }
 
         ensures broken { self.old.broken ≡ true → IsErr result }

@@ -2,7 +2,8 @@ ghost use Rattle.std.specs.Prelude.{◌≡◌, ◌≢◌, ◌⊎◌, ◌↔◌, 
 ghost use Rattle.avl_values.specs.Causes.{Rose};
 ghost use Rattle.medium.specs.Buffer.{IsTornImage};
 ghost use Rattle.medium_model.specs.CallsLeft.{MayFail, unlimited, after};
-ghost use Rattle.medium_model.specs.Content.{IsImage, after_write, after_sync, settled};
+ghost use Rattle.medium_model.specs.Content.{after_write, after_sync, settled};
+ghost use Rattle.medium_model.specs.PowerLoss.{IsImage};
 ghost use Rattle.medium.specs.Memory.{after_torn, all_alike, bench_state, image_of, left_told};
 ghost use Rattle.medium_model.specs.State.{Counted, IfTold, TornWrite, told};
 
@@ -10,11 +11,9 @@ use crate::memory_content::MemoryContent;
 use crate::power::Power;
 use crate::torn_images::TornImages;
 use avl_values::{Failed, NoMemory};
-use medium_model::{Bench, Medium, ReserveError, Tear};
+use medium_model::{Bench, MAX_PLACE, Medium, ReserveError, Tear};
 use std::alloc::Global;
 use std::marker::Model;
-
-const MAX_PLACE: u64 = 1 << 62;
 
 /// A bench in memory. After a restart it reads as the image of the tear that it was armed with, and as its durable content
 /// where it was unarmed: the content at the last sync that succeeded, and then each write since, torn, the write that met
@@ -158,7 +157,6 @@ impl Medium for MemoryBench {
         requires ready { at + length from.now ≤ self.old.ready }
         ensures written { OnOk result ((bench_state self.new).content ≡ told (after_write at from.now) (bench_state self.old).content) }
         ensures torn { OnErr result (TornWrite at (length from.now) (bench_state self.old).content (bench_state self.new).content) }
-        ensures still_told { IsSome (bench_state self.old).content → IsSome (bench_state self.new).content }
         ensures counted { Counted 1 (bench_state self.old) (bench_state self.new) (IsErr result) }
 
         ensures same_tear { self.new.tear ≡ self.old.tear }
@@ -180,7 +178,6 @@ impl Medium for MemoryBench {
         ensures durable { OnOk result ((bench_state self.new).content ≡ told after_sync (bench_state self.old).content) }
         ensures was_image { OnOk result (IfTold (bench_state self.old).content (λ c. IsImage c c.reads)) }
         ensures unchanged { OnErr result ((bench_state self.new).content ≡ (bench_state self.old).content) }
-        ensures still_told { IsSome (bench_state self.old).content → IsSome (bench_state self.new).content }
         ensures counted { Counted 1 (bench_state self.old) (bench_state self.new) (IsErr result) }
 
         ensures same_tear { self.new.tear ≡ self.old.tear }

@@ -1,6 +1,7 @@
 ghost use Rattle.std.specs.Prelude.{◌≡◌, ◌+◌, ◌-◌, ◌<◌, ◌≤◌, ◌^◌, min, max, true, false, [], length, replicate, take, drop, IfOk, OnOk, OnErr};
 ghost use Rattle.medium.specs.Buffer.{IsTornImage};
-ghost use Rattle.medium_model.specs.Content.{IsImage, after_write, after_sync, settled, written};
+ghost use Rattle.medium_model.specs.Content.{after_write, after_sync, settled, written};
+ghost use Rattle.medium_model.specs.PowerLoss.{IsImage};
 
 use crate::dirty_map::DirtyMap;
 use crate::image::Image;

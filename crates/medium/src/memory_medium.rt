@@ -1,17 +1,16 @@
 ghost use Rattle.std.specs.Prelude.{◌≡◌, ◌⊎◌, ◌↔◌, ◌+◌, ◌-◌, ◌<◌, ◌≤◌, ◌^◌, min, length, take, drop, IfOk, OnOk, OnErr, IsErr, IsErrOf, IsSome, IsTrue};
 ghost use Rattle.avl_values.specs.Causes.{Rose};
 ghost use Rattle.medium_model.specs.CallsLeft.{MayFail};
-ghost use Rattle.medium_model.specs.Content.{IsImage, after_write, after_sync, settled};
+ghost use Rattle.medium_model.specs.Content.{after_write, after_sync, settled};
+ghost use Rattle.medium_model.specs.PowerLoss.{IsImage};
 ghost use Rattle.medium.specs.Memory.{IsNumbered, memory_state};
 ghost use Rattle.medium_model.specs.State.{Counted, IfTold, TornWrite, told};
 
 use crate::memory_content::MemoryContent;
 use avl_values::{Failed, NoMemory};
-use medium_model::{Medium, ReserveError};
+use medium_model::{MAX_PLACE, Medium, ReserveError};
 use std::alloc::Global;
 use std::marker::Model;
-
-const MAX_PLACE: u64 = 1 << 62;
 
 /// A medium in memory that fails at chosen calls. The calls of `len`, `read`, `write` and `sync` are counted from 0; a count
 /// at its type's end stands still. A write that fails changes nothing that a read gives.
@@ -134,7 +133,6 @@ impl Medium for MemoryMedium {
         requires ready { at + length from.now ≤ self.old.ready }
         ensures written { OnOk result ((memory_state self.new).content ≡ told (after_write at from.now) (memory_state self.old).content) }
         ensures torn { OnErr result (TornWrite at (length from.now) (memory_state self.old).content (memory_state self.new).content) }
-        ensures still_told { IsSome (memory_state self.old).content → IsSome (memory_state self.new).content }
         ensures counted { Counted 1 (memory_state self.old) (memory_state self.new) (IsErr result) }
 
         ensures numbered { IsNumbered self.old self.new (IsErr result) }
@@ -156,7 +154,6 @@ impl Medium for MemoryMedium {
         ensures durable { OnOk result ((memory_state self.new).content ≡ told after_sync (memory_state self.old).content) }
         ensures was_image { OnOk result (IfTold (memory_state self.old).content (λ c. IsImage c c.reads)) }
         ensures unchanged { OnErr result ((memory_state self.new).content ≡ (memory_state self.old).content) }
-        ensures still_told { IsSome (memory_state self.old).content → IsSome (memory_state self.new).content }
         ensures counted { Counted 1 (memory_state self.old) (memory_state self.new) (IsErr result) }
 
         ensures numbered { IsNumbered self.old self.new (IsErr result) }

@@ -5,6 +5,7 @@ ghost use Rattle.medium.specs.Memory.{after_torn, all_alike};
 use crate::image::Image;
 use crate::memory_content::MemoryContent;
 use avl_values::NoMemory;
+use medium_model::OPEN;
 use std::alloc::Global;
 use std::marker::Model;
 
@@ -82,7 +83,7 @@ impl TornImages {
     {
         let at = at as usize;
         self.zero.fill(at, from.len(), 0);
-        self.opened.fill(at, from.len(), 0xA5);
+        self.opened.fill(at, from.len(), OPEN);
         let half = from.len() / 2;
         if half > 0 {
             self.half.put(at, &from[..half]);

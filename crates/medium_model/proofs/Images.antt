@@ -1,13 +1,15 @@
 -- What holds of every image that a power loss may leave, weakened or taken over a sync, and runs of calls one after the
 -- other. The layers above cite these.
-use Rattle.std.proofs.Common.{◌≡◌, ◌⊎◌, inl, inr, ℕ, ◌+◌, ◌-◌, ◌<◌, ◌≤◌, Bool, true, false, List, [], length, get_or, replicate, Option, Some, None, sym, ◌∙◌, ap, refl, subst, arith}
+use Rattle.std.proofs.Common.{◌≡◌, ◌⊎◌, inl, inr, ℕ, ◌+◌, ◌-◌, ◌<◌, ◌≤◌, Bool, true, false, List, [], length, get_or, replicate, Option, Some, None, IsSome, sym, ◌∙◌, ap, refl, subst, arith}
 use Rattle.std.proofs.lemmas.List.{ext_get_or, get_or_past, length-replicate}
-use Rattle.std.proofs.lemmas.Bool.{cases_lt}
+use Rattle.std.proofs.lemmas.Bool.{cases_lt, false≢true}
 use Rattle.std.proofs.lemmas.Bool.Decides.{nat_tests}
 use Rattle.medium_model.specs.CallsLeft.{CallsLeft, unknown, unlimited, after, exhausted, less, Passes, Fails}
-use Rattle.medium_model.specs.Content.{Content, IsImage, settled, after_sync, after_write, written}
+use Rattle.medium_model.specs.Content.{Content, settled, after_sync, after_write, written}
 use Rattle.medium_model.proofs.Written.{length-written, get_or-written_before, get_or-written_behind}
-use Rattle.medium_model.specs.State.{MediumState, EveryImage, IfTold, WasImage, TornWrite, Counted, told}
+use Rattle.medium_model.specs.State.{MediumState, IfTold, TornWrite, Counted, IsRun, told}
+use Rattle.medium_model.specs.Images.{HoldsWith, IsSettled, IsDurable}
+use Rattle.medium_model.specs.PowerLoss.{IsImage, EveryImage, WasImage}
 
 -- what is durable whole stands alone
 pub image-settled : (xs image : List ℕ) → IsImage (settled xs) image → image ≡ xs
@@ -150,6 +152,7 @@ counted-none s = record {
   left = less-none s.left;
   passes = λ _ f. f;
   fails = never_none s.left;
+  told = λ was. was;
 }
 
 -- a run that passed, and then another
@@ -161,6 +164,7 @@ counted-then {n = n} {m = m} {a = a} {b = b} {c = c} {failed = failed} first sec
   left = second.left ∙ ap (less m) first.left ∙ less-less n m a.left;
   passes = λ p. second.passes (let P : CallsLeft → Type 0 = λ l. Passes m l in subst P (sym first.left) (passes-rest n m a.left p));
   fails = λ f. second.fails (let P : CallsLeft → Type 0 = λ l. Fails m l in subst P (sym first.left) (fails-rest n m a.left first.fails f));
+  told = λ was. second.told (first.told was);
 }
 
 -- the same run under other words
@@ -174,4 +178,70 @@ counted-as {a = a} {b = b} {failed = failed} {given_up = given_up} same there ba
       left = counted.left;
       passes = λ p g. counted.passes p (there g);
       fails = λ f. back (counted.fails f);
+      told = counted.told;
     })
+
+-- where no call will fail, none fails, and none will
+passes-unlimited : (n : ℕ) (l : CallsLeft) → l ≡ unlimited → Passes n l
+passes-unlimited n l is = let P : CallsLeft → Type 0 = λ k. Passes n k in subst P (sym is) tt
+
+-- a run of counted calls is a run
+pub run-counted : {n : ℕ} {a b : MediumState} {failed : Type 0} → Counted n a b failed → IsRun a b failed
+run-counted {n = n} {a = a} {b = b} {failed = failed} counted = record {
+  ready = counted.ready;
+  later = counted.later;
+  cause = counted.cause;
+  never = λ is. counted.passes (passes-unlimited n a.left is);
+  left = λ is. counted.left ∙ ap (less n) is;
+  told = counted.told;
+}
+
+-- a run that passed, and then another
+pub run-then : {a b c : MediumState} {failed : Type 0} → IsRun a b ⊥ → IsRun b c failed → IsRun a c failed
+run-then {a = a} {b = b} {c = c} {failed = failed} first second = record {
+  ready = omega (arith, first.ready, second.ready);
+  later = omega (arith, first.later, second.later);
+  cause = λ f. let rose = second.cause f in omega (arith, first.later);
+  never = λ is. second.never (first.left is);
+  left = λ is. second.left (first.left is);
+  told = λ was. second.told (first.told was);
+}
+
+-- the same run under other words
+pub run-as : {a b : MediumState} {failed given_up : Type 0} → (given_up → failed) → IsRun a b failed → IsRun a b given_up
+run-as there run = record {
+  ready = run.ready;
+  later = run.later;
+  cause = λ g. run.cause (there g);
+  never = λ is g. run.never is (there g);
+  left = run.left;
+  told = run.told;
+}
+
+-- What is settled is in each image.
+pub settled-images : {T : Type 0} → (IsSound : List ℕ → Type 0) (meaning : List ℕ → T) (P Q : T → Type 0) (o : Option Content) → ((x : T) → P x → Q x)
+    → IfTold o (IsSettled IsSound meaning P) → EveryImage o (HoldsWith IsSound meaning Q)
+settled-images IsSound meaning P Q None so is = tt
+settled-images IsSound meaning P Q (Some c) so is = λ image im.
+    let R : Content → Type 0 = λ d. IsImage d image in
+    let same = image-settled c.reads image (subst R is.rest im) in
+    record { sound = subst IsSound (sym same) is.sound; holds = so (meaning image) (let S : List ℕ → Type 0 = λ i. P (meaning i) in subst S (sym same) is.holds) }
+
+pub durable-settled : {T : Type 0} → (IsSound : List ℕ → Type 0) (meaning : List ℕ → T) (P : T → Type 0) (m : MediumState)
+    → IfTold m.content (IsSettled IsSound meaning P) → IsDurable IsSound meaning P m
+durable-settled IsSound meaning P m is = record { same = settled-images IsSound meaning P P m.content (λ x p. p) is; settled = is }
+
+-- what the images mean, weakened
+pub holds-map : {T : Type 0} → (IsSound : List ℕ → Type 0) (meaning : List ℕ → T) (P Q : T → Type 0) (o : Option Content) → ((x : T) → P x → Q x)
+    → EveryImage o (HoldsWith IsSound meaning P) → EveryImage o (HoldsWith IsSound meaning Q)
+holds-map IsSound meaning P Q None so every = tt
+holds-map IsSound meaning P Q (Some c) so every = λ image im. let h = every image im in record { sound = h.sound; holds = so (meaning image) h.holds }
+
+-- Where the content is told, what each image has is true of one that a power loss might have left.
+pub every-at : (o : Option Content) (P : List ℕ → Type 0) (image : List ℕ) → IsSome o → EveryImage o P → WasImage o image → P image
+every-at None P image told every was = absurd (false≢true told)
+every-at (Some c) P image told every was = every image was
+
+pub every-told : (o : Option Content) (P : List ℕ → Type 0) (image : List ℕ) → IsSome o → EveryImage o P → IfTold o (λ c. IsImage c image) → P image
+every-told None P image told every was = absurd (false≢true told)
+every-told (Some c) P image told every was = every image was

@@ -1,5 +1,4 @@
--- What a medium holds, what a power loss may leave of it, and what each call does to it (this project's own model of a
--- flash or a file whose power may be cut).
+-- What a medium holds, and what each call does to it (this project's own model of a flash or a file whose power may be cut).
 use Rattle.std.specs.Prelude.{◌≡◌, ℕ, ◌+◌, ◌-◌, ◌<◌, ◌≤◌, max, Bool, true, false, List, [], ◌++◌, length, get_or, take, drop, replicate}
 
 -- What a read gives, what the last sync made durable, and which bytes were written since: after a power loss these may
@@ -17,12 +16,6 @@ filled d n xs = take n xs ++ replicate (n - length xs) d
 -- the list with others written at a place, the gap behind its end filled
 abbrev pub written : {A : Type 0} → A → ℕ → List A → List A → List A
 written d at ys xs = filled d at xs ++ (ys ++ drop (at + length ys) xs)
-
--- A power loss may leave this image.
-pub record IsImage (c : Content) (image : List ℕ) : Type 0 where
-  pub no_shorter : length c.durable ≤ length image
-  pub no_longer : length image ≤ max (length c.durable) (length c.dirty)
-  pub stays : (k : ℕ) → k < length c.durable → get_or c.dirty k false ≡ false → get_or image k 0 ≡ get_or c.durable k 0
 
 -- all that is read is durable
 abbrev pub settled : List ℕ → Content

@@ -1,3 +1,5 @@
 pub mod CallsLeft
 pub mod Content
+pub mod Images
+pub mod PowerLoss
 pub mod State

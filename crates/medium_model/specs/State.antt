@@ -1,8 +1,8 @@
 -- What contracts see of a medium. Its content stands there where it tells it; of a real file nothing is told.
-use Rattle.std.specs.Prelude.{◌≡◌, ℕ, ◌≤◌, List, Option, Some, None}
+use Rattle.std.specs.Prelude.{◌≡◌, ℕ, ◌≤◌, Option, Some, None, IsSome}
 use Rattle.avl_values.specs.Causes.{Rose}
-use Rattle.medium_model.specs.CallsLeft.{CallsLeft, less, Passes, Fails}
-use Rattle.medium_model.specs.Content.{Content, IsImage, FailedWrite}
+use Rattle.medium_model.specs.CallsLeft.{CallsLeft, unlimited, less, Passes, Fails}
+use Rattle.medium_model.specs.Content.{Content, FailedWrite}
 
 pub record MediumState : Type 0 where
   pub content : Option Content
@@ -22,16 +22,6 @@ abbrev pub IfTold : Option Content → (Content → Type 0) → Type 0
 IfTold None P = Unit {0}
 IfTold (Some c) P = P c
 
--- each image that a power loss now may leave has P, where the content is told
-abbrev pub EveryImage : Option Content → (List ℕ → Type 0) → Type 0
-EveryImage None P = Unit {0}
-EveryImage (Some c) P = (image : List ℕ) → IsImage c image → P image
-
--- a power loss might have left this image then, where the content was told
-abbrev pub WasImage : Option Content → List ℕ → Type 0
-WasImage None image = Unit {0}
-WasImage (Some c) image = IsImage c image
-
 -- a write of n bytes that failed
 abbrev pub TornWrite : ℕ → ℕ → Option Content → Option Content → Type 0
 TornWrite at n None new = new ≡ None
@@ -46,3 +36,25 @@ pub record Counted (n : ℕ) (old new : MediumState) (failed : Type 0) : Type 0 
   pub left : new.left ≡ less n old.left
   pub passes : Passes n old.left → failed → ⊥
   pub fails : Fails n old.left → failed
+  -- what was told stays told
+  pub told : IsSome old.content → IsSome new.content
+
+-- a run of some calls, at least one, whose number isn't said
+pub record CountedSome (old new : MediumState) (failed : Type 0) : Type 0 where
+  pub calls : ℕ
+  pub some : 1 ≤ calls
+  pub counted : Counted calls old new failed
+
+-- a run of calls, maybe of none, whose number isn't said
+pub record CountedMaybe (old new : MediumState) (failed : Type 0) : Type 0 where
+  pub calls : ℕ
+  pub counted : Counted calls old new failed
+
+-- A run of calls, with or without a `reserve`: its counts, and what it is where none will fail.
+pub record IsRun (old new : MediumState) (failed : Type 0) : Type 0 where
+  pub ready : old.ready ≤ new.ready
+  pub later : old.faults ≤ new.faults
+  pub cause : failed → Rose old.faults new.faults
+  pub never : old.left ≡ unlimited → failed → ⊥
+  pub left : old.left ≡ unlimited → new.left ≡ unlimited
+  pub told : IsSome old.content → IsSome new.content

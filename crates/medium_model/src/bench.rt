@@ -1,6 +1,7 @@
 ghost use Rattle.std.specs.Prelude.{◌≡◌, ◌↔◌, ◌≤◌, ℕ, List, Some, IsSome, IsTrue};
 ghost use Rattle.medium_model.specs.CallsLeft.{CallsLeft, unknown, unlimited, after, exhausted};
-ghost use Rattle.medium_model.specs.Content.{IsImage, settled};
+ghost use Rattle.medium_model.specs.Content.{settled};
+ghost use Rattle.medium_model.specs.PowerLoss.{IsImage};
 ghost use Rattle.medium_model.specs.State.{MediumState, IfTold};
 
 use crate::Medium;

@@ -3,7 +3,9 @@
 #![tactic(auto)]
 
 mod bench;
+mod gate;
 mod medium;
 
 pub use bench::{Bench, Tear};
-pub use medium::{Medium, ReserveError};
+pub use gate::{CLOSED, OPEN};
+pub use medium::{MAX_PLACE, Medium, ReserveError};

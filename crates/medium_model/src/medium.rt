@@ -1,10 +1,14 @@
-ghost use Rattle.std.specs.Prelude.{◌≡◌, ◌⊎◌, ◌+◌, ◌-◌, ◌<◌, ◌≤◌, ◌^◌, min, length, take, drop, IfOk, OnOk, OnErr, IsErr, IsErrOf, IsSome};
+ghost use Rattle.std.specs.Prelude.{◌≡◌, ◌⊎◌, ◌+◌, ◌-◌, ◌<◌, ◌≤◌, ◌^◌, min, length, take, drop, IfOk, OnOk, OnErr, IsErr, IsErrOf};
 ghost use Rattle.avl_values.specs.Causes.{Rose};
 ghost use Rattle.medium_model.specs.CallsLeft.{MayFail};
-ghost use Rattle.medium_model.specs.Content.{IsImage, after_write, after_sync};
+ghost use Rattle.medium_model.specs.Content.{after_write, after_sync};
+ghost use Rattle.medium_model.specs.PowerLoss.{IsImage};
 ghost use Rattle.medium_model.specs.State.{MediumState, Counted, IfTold, TornWrite, told};
 
 use avl_values::Failed;
+
+/// The greatest place up to which a medium can be made ready for writes.
+pub const MAX_PLACE: u64 = 1 << 62;
 
 /// Why a medium isn't ready for writes up to a place.
 #[derive(Clone, Copy, Debug, PartialEq, Eq)]
@@ -62,7 +66,6 @@ pub trait Medium: Drop {
         requires ready { at + length from.now ≤ (state self.old).ready }
         ensures written { OnOk result ((state self.new).content ≡ told (after_write at from.now) (state self.old).content) }
         ensures torn { OnErr result (TornWrite at (length from.now) (state self.old).content (state self.new).content) }
-        ensures still_told { IsSome (state self.old).content → IsSome (state self.new).content }
         ensures counted { Counted 1 (state self.old) (state self.new) (IsErr result) };
 
     /// After it a power loss leaves what a read gives.
@@ -70,6 +73,5 @@ pub trait Medium: Drop {
         ensures durable { OnOk result ((state self.new).content ≡ told after_sync (state self.old).content) }
         ensures was_image { OnOk result (IfTold (state self.old).content (λ c. IsImage c c.reads)) }
         ensures unchanged { OnErr result ((state self.new).content ≡ (state self.old).content) }
-        ensures still_told { IsSome (state self.old).content → IsSome (state self.new).content }
         ensures counted { Counted 1 (state self.old) (state self.new) (IsErr result) };
 }

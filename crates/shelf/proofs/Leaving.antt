@@ -5,7 +5,8 @@ use Rattle.std.proofs.lemmas.Bool.{cases_lt}
 use Rattle.avl_values.specs.Causes.{Rose}
 use Rattle.avl_values.specs.Record.{Record}
 use Rattle.medium_model.specs.Content.{Content}
-use Rattle.medium_model.specs.State.{MediumState, IfTold, EveryImage, Counted}
+use Rattle.medium_model.specs.State.{MediumState, IfTold, Counted}
+use Rattle.medium_model.specs.PowerLoss.{EveryImage}
 use Rattle.medium_model.proofs.Images.{every-map, counted-none}
 use Rattle.record_layout.specs.RecordsOf.{records_of}
 use Rattle.archive_journal.specs.Body.{EntryValue}

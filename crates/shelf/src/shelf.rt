@@ -2,7 +2,8 @@ ghost use Rattle.std.specs.Prelude.{◌≡◌, ◌≤◌, ◌^◌, true, false, 
 ghost use Rattle.avl_values.specs.Causes.{IsAbove};
 ghost use Rattle.medium_model.specs.CallsLeft.{after, unlimited};
 ghost use Rattle.medium_model.specs.Content.{after_sync};
-ghost use Rattle.medium_model.specs.State.{EveryImage, IfTold, told};
+ghost use Rattle.medium_model.specs.State.{IfTold, told};
+ghost use Rattle.medium_model.specs.PowerLoss.{EveryImage};
 ghost use Rattle.record_layout.specs.RecordsOf.{count_of};
 ghost use Rattle.archive_journal.specs.Entries.{IsArchive, entries_of};
 ghost use Rattle.archive_journal.specs.Journal.{IsRun, KeepsEntries};

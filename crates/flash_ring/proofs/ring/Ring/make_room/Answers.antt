@@ -2,7 +2,8 @@
 use Rattle.std.proofs.Common.{◌∙◌, ℕ, OnOk, [], ◌∷◌, List, Option, ap, sym, subst}
 use Rattle.std.proofs.lemmas.Result.{on_ok_weaker}
 use Rattle.flash_ring.specs.Held.{Held, is_full}
-use Rattle.flash_ring.specs.Images.{IsEither, MayClose, OthersStay, reached}
+use Rattle.flash_ring.specs.Images.{MayClose, OthersStay, reached}
+use Rattle.medium_model.specs.Images.{IsEither}
 use Rattle.flash_ring.specs.Entries.{IsOldest, entries_of, first_slot, with_room}
 use Rattle.avl_values.specs.declared.order.Order.TheVariants.{Oldest}
 use Rattle.flash_ring.specs.Ring.{RingView}

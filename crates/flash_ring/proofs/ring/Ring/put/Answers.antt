@@ -6,7 +6,8 @@ use Rattle.record_codecs.specs.SomeRecord.{IsSomeRecord}
 use Rattle.avl_values.specs.Viewed.{record_of}
 use Rattle.medium_model.specs.State.{IfTold}
 use Rattle.flash_ring.specs.Held.{Held, put_in}
-use Rattle.flash_ring.specs.Images.{IsEither, IsSettled}
+use Rattle.flash_ring.specs.Images.{IsSettled}
+use Rattle.medium_model.specs.Images.{IsEither}
 use Rattle.flash_ring.specs.Ring.{RingView, EachHolds}
 use Rattle.flash_ring.proofs.Rings.{passed, closed-there, either_up, durable_up, ring-stored}
 use Rattle.flash_ring.proofs.ring.Ring.put.Goals as goal
