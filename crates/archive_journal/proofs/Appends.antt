@@ -6,10 +6,11 @@ use Rattle.medium_model.specs.Content.{Content, settled, written, after_write, a
 use Rattle.medium_model.specs.State.{IfTold, TornWrite, told}
 use Rattle.medium_model.specs.PowerLoss.{IsImage, EveryImage}
 use Rattle.medium_model.proofs.Images.{SameOutside, WritesWithin, image-settled, written-outside, told-map, images-written, images-torn}
+use Rattle.medium_model.specs.Images.{unchanged, changed}
 use Rattle.medium_model.proofs.Written.{length-written, get_or-written_before, get_or-written_there}
 use Rattle.archive_journal.specs.Body.{EntryValue, is_body, entry_in}
 use Rattle.archive_journal.specs.Entries.{size_at, entries_of, IsArchive}
-use Rattle.archive_journal.specs.Journal.{HoldsWith, IsEither, unchanged, changed, IsSettled, IsTold, entries_told, with_entry}
+use Rattle.archive_journal.specs.Journal.{HoldsWith, IsEither, IsSettled, IsTold, entries_told, with_entry}
 use Rattle.archive_journal.specs.Places.{StandIn, IsClosed}
 use Rattle.archive_journal.proofs.Walks.{file-closed, file-same, file-more, file-archive}
 use Rattle.archive_journal.proofs.Bodies.{IsWritten, written-entry}
@@ -78,10 +79,10 @@ module _ (es : List EntryValue) (gate : ℕ) (body : List ℕ) (well : is_body b
 
   image-either : HoldsWith (IsEither (Some es) (Some (es ++ entry_in body ∷ []))) image
   image-either = record {
-    archive = file-archive es gate image image-stand;
+    sound = file-archive es gate image image-stand;
     holds = elim (cases_eq (get_or image gate 0) 0xA5) as (λ _. IsEither (Some es) (Some (es ++ entry_in body ∷ [])) (entries_of image)) [
-      | inl is ↦ changed (ap Some (sym (image-opened is)))
-      | inr closed ↦ unchanged (ap Some (sym (image-closed closed)))
+      | inl is ↦ record { is = changed (ap Some (image-opened is)) }
+      | inr closed ↦ record { is = unchanged (ap Some (image-closed closed)) }
     ];
   }
 
@@ -91,14 +92,14 @@ pub closed-entries : (gate n : ℕ) (c : Content) (is : IsClosed gate n c) → e
 closed-entries gate n c is = file-closed is.entries gate c.reads is.stand is.closed
 
 pub closed-settled : (gate n : ℕ) (o : Option Content) → IfTold o (IsClosed gate n) → IfTold o (IsSettled n)
-closed-settled gate n o is = told-map o _ _ (λ c at. record { rest = at.rest; archive = file-archive at.entries gate c.reads at.stand; count = ap length (closed-entries gate n c at) ∙ at.count }) is
+closed-settled gate n o is = told-map o _ _ (λ c at. record { rest = at.rest; begins = at.stand.begins; count = ap length (closed-entries gate n c at) ∙ at.count }) is
 
 pub closed-images : (gate n : ℕ) (o : Option Content) (P : List EntryValue → Type 0) → IfTold o (λ c. P (entries_of c.reads)) → IfTold o (IsClosed gate n) → EveryImage o (HoldsWith P)
 closed-images gate n None P so is = tt
 closed-images gate n (Some c) P so is = λ image im.
     let Q : Content → Type 0 = λ d. IsImage d image in
     let same = image-settled c.reads image (subst Q is.rest im) in
-    record { archive = subst IsArchive (sym same) (file-archive is.entries gate c.reads is.stand); holds = subst P (ap entries_of (sym same)) so }
+    record { sound = subst IsArchive (sym same) (file-archive is.entries gate c.reads is.stand); holds = subst P (ap entries_of (sym same)) so }
 
 pub closed-durable : (gate n : ℕ) (o : Option Content) → IfTold o (IsClosed gate n) → EveryImage o (HoldsWith (IsTold (entries_told o)))
 closed-durable gate n None is = tt
@@ -122,8 +123,8 @@ module _ (gate n : ℕ) (body : List ℕ) (well : is_body body ≡ true) where
         sym (get_or-take (gate + 1) image gate 0 (omega arith)) ∙ ap (λ (l : List ℕ). get_or l gate 0) same.front ∙ get_or-take (gate + 1) c.reads gate 0 (omega arith) in
         let stand = file-same is.entries gate c.reads image is.stand (omega arith) front in
         record {
-          archive = file-archive is.entries gate image stand;
-          holds = unchanged (ap Some (closed-entries gate n c is ∙ sym (file-closed is.entries gate image stand (λ opened. is.closed (sym at_gate ∙ opened)))));
+          sound = file-archive is.entries gate image stand;
+          holds = record { is = unchanged (ap Some (file-closed is.entries gate image stand (λ opened. is.closed (sym at_gate ∙ opened)) ∙ sym (closed-entries gate n c is))) };
         };
   }
 
@@ -229,7 +230,7 @@ module _ (gate n : ℕ) (body : List ℕ) (well : is_body body ≡ true) where
 -- once more entries are told than before
 pub closed-changed : (gate n : ℕ) (o : Option Content) (before after : Option (List EntryValue)) → entries_told o ≡ after → IfTold o (IsClosed gate n) → EveryImage o (HoldsWith (IsEither before after))
 closed-changed gate n None before after is was = tt
-closed-changed gate n (Some c) before after is was = closed-images gate n (Some c) _ (changed (sym is)) was
+closed-changed gate n (Some c) before after is was = closed-images gate n (Some c) _ (record { is = changed is }) was
 
 -- a fact of every image, where the content is the same
 pub every-same : (o same : Option Content) (P : List ℕ → Type 0) → same ≡ o → EveryImage o P → EveryImage same P

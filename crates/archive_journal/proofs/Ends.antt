@@ -45,7 +45,7 @@ module _ (gate n : ℕ) (c : Content) (is : IsOpen gate n c) (image : List ℕ) 
   ]
 
   told_image : HoldsWith (IsTold (Some (entries_of c.reads))) image
-  told_image = record { archive = file-archive is.entries gate image stands; holds = record { is = ap Some (open-entries gate n c is ∙ sym keeps) } }
+  told_image = record { sound = file-archive is.entries gate image stands; holds = record { is = ap Some (keeps ∙ sym (open-entries gate n c is)) } }
 
 close_within : (gate n : ℕ) (c : Content) → IsOpen gate n c → WritesWithin gate 1 (HoldsWith (IsTold (Some (entries_of c.reads)))) c
 close_within gate n c is = record { rest = is.rest; fits = (let there = is.stand.there in omega arith); each = told_image gate n c is }
@@ -99,7 +99,7 @@ empty_from c is = record {
       let few = is.few in
       let longest = same.no_longer in
       let small : length image ≤ 9 = omega arith in
-      record { archive = inr small; holds = record { is = ap Some (sym (small-entries image small)) } };
+      record { sound = inr small; holds = record { is = ap Some (small-entries image small) } };
 }
 
 pub empty_failed : (told0 told1 : Option Content) → IfTold told0 IsSmall → TornWrite 0 9 told0 told1 → EveryImage told1 (HoldsWith (IsTold (Some [])))
@@ -128,7 +128,7 @@ empty_done (Some c) told1 told2 is wrote synced =
 
 pub empty_images : (told2 : Option Content) → IfTold told2 (IsClosed 8 0) → EveryImage told2 (HoldsWith (IsTold (Some [])))
 empty_images None is = tt
-empty_images (Some c) is = closed-images 8 0 (Some c) _ (record { is = ap Some (sym (closed-entries 8 0 c is ∙ no_entries is.entries is.count)) }) is
+empty_images (Some c) is = closed-images 8 0 (Some c) _ (record { is = ap Some (closed-entries 8 0 c is ∙ no_entries is.entries is.count) }) is
   where
     no_entries : (es : List EntryValue) → length es ≡ 0 → es ≡ []
     no_entries [] none = refl
@@ -141,7 +141,7 @@ durable-images file None begins is = tt
 durable-images file (Some c) begins is = λ image im.
     let Q : Content → Type 0 = λ d. IsImage d image in
     let same = image-settled c.reads image (subst Q is.rest im) in
-    record { archive = inl (ap (λ (l : List ℕ). take 8 l) (same ∙ sym is.is) ∙ begins); holds = record { is = ap (λ (l : List ℕ). Some (entries_of l)) (sym same) } }
+    record { sound = inl (ap (λ (l : List ℕ). take 8 l) (same ∙ sym is.is) ∙ begins); holds = record { is = ap (λ (l : List ℕ). Some (entries_of l)) same } }
 
 pub small-images : (o : Option Content) → IfTold o IsSmall → EveryImage o (HoldsWith (IsTold (Some [])))
 small-images None is = tt
@@ -149,7 +149,7 @@ small-images (Some c) is = λ image im.
     let Q : Content → Type 0 = λ d. IsImage d image in
     let same = image-settled c.reads image (subst Q is.rest im) in
     let few : length image ≤ 9 = (let was = is.few in omega (arith, ap length same)) in
-    record { archive = inr few; holds = record { is = ap Some (sym (small-entries image few)) } }
+    record { sound = inr few; holds = record { is = ap Some (small-entries image few) } }
 
 -- each entry has a byte
 stand-count : (es : List EntryValue) (n : ℕ) (bytes : List ℕ) → Stand es n bytes → length es ≤ n

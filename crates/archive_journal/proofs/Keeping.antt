@@ -36,8 +36,8 @@ keeps-held (Some c) (Some d) es was is every = λ image im.
     record {
       old = c.reads;
       was = was;
-      same = told-some (entries_of image) (entries_of c.reads) (sym held.holds.is ∙ is);
-      archive = λ _. held.archive;
+      same = told-some (entries_of image) (entries_of c.reads) (held.holds.is ∙ is);
+      archive = λ _. held.sound;
     }
 
 pub synced-entries : (o now : Option Content) → now ≡ told after_sync o → IfTold o (λ c. entries_told now ≡ Some (entries_of c.reads))

@@ -1,12 +1,12 @@
 -- What contracts see of a journal, and what a power loss may leave of it, said of its entries.
-use Rattle.std.specs.Prelude.{◌≡◌, ℕ, ◌+◌, ◌≤◌, Bool, false, List, [], ◌∷◌, ◌++◌, length, Option, Some, None}
-use Rattle.avl_values.specs.Causes.{Rose}
-use Rattle.medium_model.specs.CallsLeft.{unlimited}
+use Rattle.std.specs.Prelude.{◌≡◌, ℕ, ◌+◌, ◌≤◌, Bool, false, List, [], ◌∷◌, ◌++◌, length, take, Option, Some, None}
 use Rattle.medium_model.specs.Content.{Content, settled}
-use Rattle.medium_model.specs.State.{MediumState, IfTold, Counted}
+use Rattle.medium_model.specs.Images as images
+use Rattle.medium_model.specs.Images.{IsSame}
+use Rattle.medium_model.specs.State.{MediumState, IfTold}
 use Rattle.medium_model.specs.PowerLoss.{EveryImage, WasImage}
 use Rattle.archive_journal.specs.Body.{EntryValue}
-use Rattle.archive_journal.specs.Entries.{entries_of, IsArchive}
+use Rattle.archive_journal.specs.Entries.{entries_of, magic, IsArchive}
 
 -- What contracts see: the medium, the place of the last gate, the number of entries, the place up to which it is ready for
 -- appends, how many bytes its buffer takes, and whether a medium fault took it down.
@@ -28,28 +28,26 @@ abbrev pub with_entry : EntryValue → Option (List EntryValue) → Option (List
 with_entry e None = None
 with_entry e (Some es) = Some (es ++ e ∷ [])
 
--- An image is an archive, and its entries have P.
-pub record HoldsWith (P : List EntryValue → Type 0) (image : List ℕ) : Type 0 where
-  pub archive : IsArchive image
-  pub holds : P (entries_of image)
+-- an image is an archive, and its entries have P
+abbrev pub HoldsWith : (List EntryValue → Type 0) → List ℕ → Type 0
+HoldsWith P = images.HoldsWith IsArchive entries_of P
 
 -- these are the entries that were told
-pub record IsTold (told : Option (List EntryValue)) (es : List EntryValue) : Type 0 where
-  pub is : told ≡ Some es
+abbrev pub IsTold : Option (List EntryValue) → List EntryValue → Type 0
+IsTold told = images.IsTold (IsSame told)
 
 -- the entries as before, or as after
-pub data IsEither (before after : Option (List EntryValue)) (es : List EntryValue) : Type 0 where
-  unchanged : before ≡ Some es → IsEither before after es
-  changed : after ≡ Some es → IsEither before after es
+abbrev pub IsEither : Option (List EntryValue) → Option (List EntryValue) → List EntryValue → Type 0
+IsEither before after = images.IsTold (images.IsEither before after)
 
 -- each image that a power loss may leave is an archive, and its entries have P
 abbrev pub EachHolds : MediumState → (List EntryValue → Type 0) → Type 0
 EachHolds m P = EveryImage m.content (HoldsWith P)
 
--- All that is read is durable, and the file is an archive of so many entries.
+-- All that is read is durable, it begins with `FMBARCH1`, and it has n entries.
 pub record IsSettled (n : ℕ) (c : Content) : Type 0 where
   pub rest : c ≡ settled c.reads
-  pub archive : IsArchive c.reads
+  pub begins : take 8 c.reads ≡ magic
   pub count : length (entries_of c.reads) ≡ n
 
 -- The journal is up, and a power loss leaves its entries as they are.
@@ -74,16 +72,3 @@ pub record KeepsEntries (before : Option Content) (image : List ℕ) : Type 0 wh
   pub was : WasImage before old
   pub same : entries_of image ≡ entries_of old
   pub archive : IsArchive old → IsArchive image
-
--- A run of calls, maybe of none, whose number isn't said.
-pub record CountedMaybe (old new : MediumState) (failed : Type 0) : Type 0 where
-  pub calls : ℕ
-  pub counted : Counted calls old new failed
-
--- A run of calls, with or without a `reserve`: its counts, and what it is where none will fail.
-pub record IsRun (old new : MediumState) (failed : Type 0) : Type 0 where
-  pub ready : old.ready ≤ new.ready
-  pub later : old.faults ≤ new.faults
-  pub cause : failed → Rose old.faults new.faults
-  pub never : old.left ≡ unlimited → failed → ⊥
-  pub left : old.left ≡ unlimited → new.left ≡ unlimited

@@ -1,9 +1,10 @@
 -- Where the entries stand in a file.
 use Rattle.std.specs.Prelude.{◌≡◌, ◌≢◌, ℕ, ◌+◌, ◌<◌, ◌≤◌, ◌^◌, true, false, List, [], ◌∷◌, length, get_or, take, drop}
 use Rattle.medium_model.specs.Content.{Content, settled}
+use Rattle.medium_model.specs.PowerLoss.{EveryImage}
 use Rattle.medium_model.specs.State.{IfTold}
 use Rattle.archive_journal.specs.Body.{EntryValue, entry_in}
-use Rattle.archive_journal.specs.Entries.{magic, size_at, body_at, is_entry}
+use Rattle.archive_journal.specs.Entries.{magic, size_at, body_at, is_entry, IsArchive}
 use Rattle.archive_journal.specs.Journal.{JournalView}
 
 -- These entries stand one behind the other at the front, in so many bytes.
@@ -34,6 +35,7 @@ pub record IsJournal (v : JournalView) : Type 0 where
   pub reserved : v.reserved ≤ v.medium.ready
   pub most : v.reserved ≤ 2 ^ 62
   pub up : v.down ≡ false → IfTold v.medium.content (IsClosed v.gate v.bodies)
+  pub archives : EveryImage v.medium.content IsArchive
 
 -- All that is read is durable, and behind so many entries the gate at this place is open, with no entry that counts behind it.
 pub record IsOpen (gate bodies : ℕ) (c : Content) : Type 0 where

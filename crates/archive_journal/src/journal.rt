@@ -1,23 +1,21 @@
-ghost use Rattle.std.specs.Prelude.{◌≡◌, ◌⊎◌, ◌↔◌, ◌+◌, ◌<◌, ◌≤◌, ◌^◌, true, false, length, IfOk, IfErr, OnOk, OnErr, IsOk, IsErr, IsErrOf, IsTrue};
+ghost use Rattle.std.specs.Prelude.{◌≡◌, ◌⊎◌, ◌↔◌, ◌+◌, ◌<◌, ◌≤◌, ◌^◌, true, false, length, IfOk, IfErr, OnOk, OnErr, IsOk, IsErr, IsErrOf, IsSome, IsTrue, ℕ, List, Some};
 ghost use Rattle.avl_values.specs.Causes.{Rose};
 ghost use Rattle.medium_model.specs.CallsLeft.{MayFail, after, unlimited};
-ghost use Rattle.medium_model.specs.Content.{after_sync};
-ghost use Rattle.medium_model.specs.State.{Counted, IfTold, told};
-ghost use Rattle.medium_model.specs.PowerLoss.{EveryImage};
+ghost use Rattle.medium_model.specs.Content.{after_sync, settled};
+ghost use Rattle.medium_model.specs.State.{Counted, IfTold, IsRun, told};
+ghost use Rattle.medium_model.specs.PowerLoss.{EveryImage, IsImage};
 ghost use Rattle.archive_journal.specs.Body.{entry_in, is_body};
 ghost use Rattle.archive_journal.specs.Entries.{IsArchive, entries_of};
-ghost use Rattle.archive_journal.specs.Journal.{EachHolds, HasRoom, IsDurable, IsEither, IsRun, KeepsEntries, after_body, entries_told, with_entry};
+ghost use Rattle.archive_journal.specs.Journal.{EachHolds, HasRoom, IsDurable, IsEither, KeepsEntries, after_body, entries_told, with_entry};
 
 use crate::entry::EntryList;
 use crate::fault::ArchiveFault;
 use crate::open::open_archive;
 use crate::write::{Tail, write_entry};
 use avl_values::MediumFault;
-use medium_model::{Bench, Medium, ReserveError, Tear};
+use medium_model::{Bench, MAX_PLACE, Medium, ReserveError, Tear};
 use std::alloc::Global;
 use std::marker::Model;
-
-const MAX_PLACE: u64 = 1 << 62;
 
 /// An archive on a medium, entry behind entry (this project's own).
 ///
@@ -165,6 +163,30 @@ impl<M: Medium> Journal<M> {
         self.medium.faults()
     }
 
+    /// Reads its medium again, as `open` does, and gives its entries. It is up then, and down where that failed.
+    pub fn reopen(&mut self, alloc: Global) -> Result<EntryList, ArchiveFault>
+        ensures durable { OnOk result (IsDurable self.new) }
+        ensures entries { IfOk result (λ es. IfTold self.old.medium.content (λ c. es ≡ entries_of c.reads)) }
+        ensures read { IfOk result (λ es. IfTold self.new.medium.content (λ c. es ≡ entries_of c.reads)) }
+        ensures bodies { IfOk result (λ es. self.new.bodies ≡ length es) }
+
+        // It keeps the entries that a power loss might have left, also where it fails.
+        ensures keeps { EveryImage self.new.medium.content (KeepsEntries self.old.medium.content) }
+
+        ensures archive { OnOk result (IfTold self.old.medium.content (λ c. IsArchive c.reads)) }
+        ensures not_archive { IsErrOf result ArchiveFault.NotArchive → IfTold self.old.medium.content (λ c. IsArchive c.reads → ⊥) }
+        ensures not_written { IsErrOf result ArchiveFault.NotArchive → self.new.medium.content ≡ told after_sync self.old.medium.content }
+
+        ensures down { OnErr result (self.new.down ≡ true) }
+        ensures run { IsRun self.old.medium self.new.medium (IsErrOf result ArchiveFault.MediumFault) }
+    {
+        self.down = true;
+        let (tail, entries) = open_archive(alloc, &mut self.medium)?;
+        self.tail = tail;
+        self.down = false;
+        Ok(entries)
+    }
+
     /// The medium, also of a journal that is down.
     pub fn into_medium(self) -> M
         ensures { M.state result ≡ self.medium }
@@ -178,8 +200,27 @@ impl<M: Medium> Journal<M> {
     where
         M: Bench,
         requires { self.old.medium.left ≡ unlimited }
-        ensures { self.new ≡ record self.old { medium = record self.old.medium { left = after calls } } }
+        ensures armed { self.new ≡ record self.old { medium = record self.old.medium { left = after calls } } }
+        ensures told { IsSome self.old.medium.content }
     {
         self.medium.arm(calls, tear);
+    }
+
+    /// The power comes back: its bench reads as one of the images that the power loss might have left, each of which is an
+    /// archive. A journal that is up keeps its entries; one that is down stays down until `reopen`.
+    pub fn restart(&mut self)
+    where
+        M: Bench,
+        ensures same { self.new ≡ record self.old { medium = self.new.medium } }
+        ensures image { (image : List ℕ) × (self.new.medium.content ≡ Some (settled image)) × IfTold self.old.medium.content (λ c. IsImage c image) }
+        ensures archive { IfTold self.new.medium.content (λ c. IsArchive c.reads) }
+        ensures durable { self.old.down ≡ false → IsDurable self.new }
+        ensures entries { self.old.down ≡ false → entries_told self.new.medium.content ≡ entries_told self.old.medium.content }
+        ensures told { IsSome self.old.medium.content }
+        ensures unlimited { self.new.medium.left ≡ unlimited }
+        ensures ready { self.old.medium.ready ≤ self.new.medium.ready }
+        ensures faults { self.new.medium.faults ≡ self.old.medium.faults }
+    {
+        self.medium.restart();
     }
 }

@@ -1,19 +1,19 @@
 //! A medium taken over as an archive.
 ghost use Rattle.std.specs.Prelude.{◌≡◌, ◌≢◌, ◌+◌, ◌<◌, ◌≤◌, ◌^◌, ◌⊎◌, ◌↔◌, [], true, false, Some, take, drop, length, get_or, IfOk, OnOk, OnErr, IsErr, IsErrOf, IsTrue};
 ghost use Rattle.medium_model.specs.Content.{after_sync, settled};
-ghost use Rattle.medium_model.specs.State.{IfTold, told};
+ghost use Rattle.medium_model.specs.State.{IfTold, IsRun, told};
 ghost use Rattle.medium_model.specs.PowerLoss.{IsImage, EveryImage};
 ghost use Rattle.archive_journal.specs.Entries.{IsArchive, entries_of, is_entry, magic};
-ghost use Rattle.archive_journal.specs.Journal.{HoldsWith, IsRun, IsTold, KeepsEntries, entries_told};
+ghost use Rattle.archive_journal.specs.Journal.{HoldsWith, IsTold, KeepsEntries, entries_told};
 ghost use Rattle.archive_journal.specs.Places.{IsClosed, IsSmall, StandIn};
 ghost use Rattle.archive_journal.specs.Found.{IsDurableFile, IsFound};
 
 use crate::entry::EntryList;
 use crate::fault::ArchiveFault;
 use crate::walk::{read_entries, read_file};
-use crate::write::{OPEN, Tail, close_gate, write_empty};
+use crate::write::{Tail, close_gate, write_empty};
 use avl_values::Failed;
-use medium_model::{Medium, ReserveError};
+use medium_model::{Medium, OPEN, ReserveError};
 use std::alloc::Global;
 
 // How many bytes of the file one read asks for.
@@ -132,6 +132,7 @@ pub fn open_archive<M: Medium>(
     ensures read { IfOk result (λ r. IfTold (M.state medium.new).content (λ c. r.1 ≡ entries_of c.reads)) }
     ensures archive { OnOk result (IfTold (M.state medium.old).content (λ c. IsArchive c.reads)) }
     ensures keeps { EveryImage (M.state medium.new).content (KeepsEntries (M.state medium.old).content) }
+    ensures archives { EveryImage (M.state medium.old).content IsArchive → EveryImage (M.state medium.new).content IsArchive }
     ensures not_archive { IsErrOf result ArchiveFault.NotArchive → IfTold (M.state medium.old).content (λ c. IsArchive c.reads → ⊥) }
     ensures not_written { IsErrOf result ArchiveFault.NotArchive → (M.state medium.new).content ≡ told after_sync (M.state medium.old).content }
     ensures run { IsRun (M.state medium.old) (M.state medium.new) (IsErrOf result ArchiveFault.MediumFault) }

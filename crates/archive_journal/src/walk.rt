@@ -1,20 +1,16 @@
 //! A file read whole, and walked from entry to entry.
 ghost use Rattle.std.specs.Prelude.{◌≡◌, ◌<◌, ◌≤◌, ◌+◌, ◌++◌, ◌^◌, true, false, drop, length, slice_get, take, IfOk, IfSome, IfNone, OnOk, IsErrOf};
-ghost use Rattle.medium_model.specs.State.{Counted, IfTold};
+ghost use Rattle.medium_model.specs.State.{Counted, CountedMaybe, IfTold};
 ghost use Rattle.archive_journal.specs.Body.{entry_in};
 ghost use Rattle.archive_journal.specs.Entries.{size_at, body_at, is_entry, entries_of, magic};
-ghost use Rattle.archive_journal.specs.Journal.{CountedMaybe};
 ghost use Rattle.archive_journal.specs.Places.{StandIn};
 
 use crate::body::{read_body, read_length};
 use crate::entry::{Entry, EntryList};
 use crate::fault::ArchiveFault;
-use crate::write::OPEN;
 use avl_values::NoMemory;
-use medium_model::Medium;
+use medium_model::{MAX_PLACE, Medium, OPEN};
 use std::alloc::Global;
-
-const MAX_PLACE: u64 = 1 << 62;
 
 // The entry whose gate stands first, and how many bytes gate and body have; None where it doesn't count.
 fn front_entry(alloc: Global, bytes: &[u8]) -> Result<Option<(Entry, usize)>, NoMemory>

@@ -8,11 +8,7 @@ ghost use Rattle.archive_journal.specs.Journal.{HoldsWith, IsEither, IsTold, ent
 ghost use Rattle.archive_journal.specs.Places.{IsClosed, IsOpen, IsSmall};
 
 use avl_values::Failed;
-use medium_model::Medium;
-
-pub const OPEN: u8 = 0xa5;
-
-const CLOSED: u8 = 0;
+use medium_model::{CLOSED, Medium, OPEN};
 
 const EMPTY: [u8; 9] = *b"FMBARCH1\0";
 

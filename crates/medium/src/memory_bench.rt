@@ -99,6 +99,7 @@ impl Medium for MemoryBench {
     ghost state = { bench_state };
 
     fn faults(&self) -> u64 {
+        // The proof takes from it that what is read is an image, and how far it is ready.
         let _ready = self.content.ready();
         self.faults
     }
@@ -236,7 +237,10 @@ fn read_torn(content: &mut MemoryContent, tears: &TornImages, tear: Tear)
 {
     match tear {
         Tear::Keep => content.revert(),
-        Tear::New => content.keep(),
+        // The proof takes from it that what is read is an image.
+        Tear::New => {
+            let _ready = content.ready();
+        }
         Tear::Zero => content.read_as(tears.zero()),
         Tear::AllOpen => content.read_as(tears.opened()),
         Tear::Half => content.read_as(tears.half()),

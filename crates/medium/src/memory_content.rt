@@ -58,12 +58,13 @@ impl MemoryContent {
         })
     }
 
-    /// The end, in bytes, up to which a write takes no memory.
+    /// The end, in bytes, up to which a write takes no memory. What a read gives is an image.
     pub fn ready(&self) -> u64
         ensures value { result ≡ self.now.ready }
         ensures most { result ≤ 2 ^ 62 }
         ensures fits { length self.now.content.reads ≤ result }
         ensures durable { length self.now.content.durable ≤ result }
+        ensures image { IsImage self.now.content self.now.content.reads }
     {
         self.ready
     }
@@ -141,13 +142,6 @@ impl MemoryContent {
         ensures was { IsImage self.old.content self.old.content.durable }
     {
         self.reads.copy_from(&self.durable, self.dirty.spans());
-    }
-
-    /// A read gives what it gave, and that is an image.
-    pub fn keep(&self)
-        ensures { IsImage self.now.content self.now.content.reads }
-    {
-        let _len = self.reads.len();
     }
 
     /// A read gives this image.

@@ -75,6 +75,7 @@ impl Medium for MemoryMedium {
     ghost state = { memory_state };
 
     fn faults(&self) -> u64 {
+        // The proof takes from it that what is read is an image, and how far it is ready.
         let _ready = self.content.ready();
         self.faults
     }

@@ -28,10 +28,12 @@ pub trait Medium: Drop {
     /// What contracts see of it.
     ghost state: { Self → MediumState };
 
-    /// How often it has failed. The count never falls, and stands still at its type's end.
+    /// How often it has failed. The count never falls, and stands still at its type's end. At every moment, what is read is
+    /// one of the images that a power loss may leave.
     fn faults(&self) -> u64
         ensures count { result ≡ (state self.now).faults }
-        ensures most { (state self.now).ready ≤ 2 ^ 62 };
+        ensures most { (state self.now).ready ≤ 2 ^ 62 }
+        ensures image { IfTold (state self.now).content (λ c. IsImage c c.reads) };
 
     /// Makes it ready for writes up to a place. This is the call that takes memory, and it isn't counted among the calls
     /// that a power loss may meet.

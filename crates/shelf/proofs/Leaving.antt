@@ -6,12 +6,13 @@ use Rattle.avl_values.specs.Causes.{Rose}
 use Rattle.avl_values.specs.Record.{Record}
 use Rattle.medium_model.specs.Content.{Content}
 use Rattle.medium_model.specs.State.{MediumState, IfTold, Counted}
+use Rattle.medium_model.specs.Images.{unchanged}
 use Rattle.medium_model.specs.PowerLoss.{EveryImage}
-use Rattle.medium_model.proofs.Images.{every-map, counted-none}
+use Rattle.medium_model.proofs.Images.{every-map, counted-none, told-map}
 use Rattle.record_layout.specs.RecordsOf.{records_of}
 use Rattle.archive_journal.specs.Body.{EntryValue}
 use Rattle.archive_journal.specs.Entries.{entries_of}
-use Rattle.archive_journal.specs.Journal.{JournalView, EachHolds, HoldsWith, IsEither, unchanged, changed, IsTold, entries_told, with_entry}
+use Rattle.archive_journal.specs.Journal.{JournalView, EachHolds, HoldsWith, IsEither, IsTold, entries_told, with_entry}
 use Rattle.archive_journal.specs.Journal as journal
 use Rattle.shelf.specs.Archive.{StoredValue, stored, has, add, admitted, fresh, listed, list_of, ArePlaces, Begins}
 use Rattle.shelf.specs.Index.{Keyed, IsComplete}
@@ -92,7 +93,7 @@ lists-images j list durable has_list = images j.medium.content durable.same has_
     images None every is = tt
     images (Some c) every is = λ image im.
         let held = every image im in
-        record { archive = held.archive; holds = record { is = ap list_of (sym (some-entries (entries_of c.reads) (entries_of image) held.holds.is)) ∙ is.is } }
+        record { sound = held.sound; holds = record { is = ap list_of (some-entries (entries_of image) (entries_of c.reads) held.holds.is) ∙ is.is } }
 
 pub lists-more : (o n : Option Content) (list : List StoredValue) (e : EntryValue) → IfTold o (HasList list) → entries_told n ≡ with_entry e (entries_told o) → IfTold n (HasList (admitted list e.imei e.records))
 lists-more o None list e is more = tt
@@ -105,7 +106,7 @@ pub lists-same : (o n : Option Content) (list : List StoredValue) → n ≡ o �
 lists-same o n list same is = let P : Option Content → Type 0 = λ c. IfTold c (HasList list) in subst P (sym same) is
 
 pub images-unchanged : (j : JournalView) (more : Option (List EntryValue)) → journal.IsDurable j → EachHolds j.medium (IsEither (entries_told j.medium.content) more)
-images-unchanged j more durable = every-map j.medium.content _ _ (λ image held. record { archive = held.archive; holds = unchanged held.holds.is }) durable.same
+images-unchanged j more durable = every-map j.medium.content _ _ (λ image held. record { sound = held.sound; holds = record { is = unchanged held.holds.is } }) durable.same
 
 -- The exits.
 
@@ -113,7 +114,15 @@ abbrev pub view : MediumState → List StoredValue → Bool → ℕ → ShelfVie
 view m list down opened = record { medium = m; list = list; down = down; opened = opened }
 
 pub durable-shelf : (j : JournalView) (list : List StoredValue) (places : List (Keyed × ℕ)) (down : Bool) (opened : ℕ) → IsShelf j list places down opened → down ≡ false → IsDurable (view j.medium list down opened)
-durable-shelf j list places down opened is up = record { up = up; same = lists-images j list (is.up up) (is.lists up) }
+durable-shelf j list places down opened is up =
+    let durable = is.up up in
+    record {
+      up = up;
+      rest = told-map j.medium.content _ _ (λ c s. s.rest) durable.settled;
+      reads = is.lists up;
+      told = durable.same;
+      same = lists-images j list durable (is.lists up);
+    }
 
 -- nothing was kept, and the list is as it was
 pub shelf-cut : (j k : JournalView) (list staged cut : List StoredValue) (places later : List (Keyed × ℕ)) (down : Bool) (opened : ℕ) → IsShelf j list places down opened → down ≡ false
@@ -238,10 +247,11 @@ module _ (j : JournalView) (list : List StoredValue) (places : List (Keyed × �
           counted = subst Q (sym four) counted;
         }
 
-    pub leaves-fault : (cut : List StoredValue) (new : List Record) (faults : ℕ) → cut ≡ list → IsShelf k cut later true opened → new ≡ fresh list imei (records_of body) → faults ≡ k.medium.faults
+    pub leaves-fault : (cut : List StoredValue) (new : List Record) (faults : ℕ) → cut ≡ list → IsShelf k cut later true opened → new ≡ fresh list imei (records_of body) → calls_for (fresh list imei (records_of body)) ≡ 4 → faults ≡ k.medium.faults
         → EachHolds k.medium (IsEither (entries_told j.medium.content) (with_entry (record { imei = imei; records = new }) (entries_told j.medium.content)))
         → Counted 4 j.medium k.medium (Unit {0}) → Leaves (view j.medium list down opened) imei body (Err (MediumFault faults)) (view k.medium cut true opened)
-    leaves-fault cut new faults same after new_is count images counted =
+    leaves-fault cut new faults same after new_is four count images counted =
+        let Q : ℕ → Type 0 = λ n. Counted n j.medium k.medium (Unit {0}) in
         let R : List Record → Type 0 = λ l. EachHolds k.medium (IsEither (entries_told j.medium.content) (with_entry (record { imei = imei; records = l }) (entries_told j.medium.content))) in
         record {
           admits = record { list = same; down = refl; fits = up; counts = (count, counted.later, counted.cause tt) };
@@ -251,7 +261,7 @@ module _ (j : JournalView) (list : List StoredValue) (places : List (Keyed × �
           images = λ _. subst R new_is images;
           untouched = never_down;
           unwritten = λ never. absurd never;
-          counted = counted;
+          counted = subst Q (sym four) counted;
         }
 
 -- something is new where the list has grown

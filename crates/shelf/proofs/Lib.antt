@@ -6,3 +6,6 @@ pub mod Making
 pub mod Opening
 pub mod Heads
 pub mod Counting
+pub mod Histories
+pub mod Laws
+pub mod Members

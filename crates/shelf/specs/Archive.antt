@@ -1,5 +1,5 @@
 -- The record list of an archive: each record of a device once, at its first place (this project's own).
-use Rattle.std.specs.Prelude.{◌≡◌, ℕ, ◌+◌, ◌==◌, ◌&&◌, ◌||◌, nat_eq, if◌then◌else◌, Bool, false, List, [], ◌∷◌, ◌++◌, slice_get, Some}
+use Rattle.std.specs.Prelude.{◌≡◌, ℕ, ◌+◌, ◌==◌, ◌&&◌, ◌||◌, nat_eq, if◌then◌else◌, Bool, false, List, [], ◌∷◌, ◌++◌, map, slice_get, Some}
 use Rattle.std.specs.Cmp.Lexicographic.{pointwise}
 use Rattle.avl_values.specs.Codec.{is_codec}
 use Rattle.avl_values.specs.Record.{Record}
@@ -44,6 +44,26 @@ listed list (e ∷ es) = listed (admitted list e.imei e.records) es
 -- the record list of an archive's entries
 abbrev pub list_of : List EntryValue → List StoredValue
 list_of es = listed [] es
+
+-- all that entries hold, in order and with repeats
+abbrev pub all_of : List EntryValue → List StoredValue
+all_of [] = []
+all_of (e ∷ es) = map (stored e.imei) e.records ++ all_of es
+
+-- all records of a device in entries, in order and with repeats
+abbrev pub archived : ℕ → List EntryValue → List Record
+archived imei [] = []
+archived imei (e ∷ es) = if e.imei == imei then e.records ++ archived imei es else archived imei es
+
+-- a device's records in a list
+abbrev pub recs_for : ℕ → List StoredValue → List Record
+recs_for imei [] = []
+recs_for imei (s ∷ list) = if s.imei == imei then s.rec ∷ recs_for imei list else recs_for imei list
+
+-- Entries that hold no record of a device twice: all that they hold is their record list. Those that `admit` appends keep to
+-- it, from an empty archive on. A file that was made elsewhere may be none of these, and is opened all the same.
+pub record HoldEachOnce (es : List EntryValue) : Type 0 where
+  pub is : all_of es ≡ list_of es
 
 -- each of these records of a device stands at its place
 abbrev pub ArePlaces : List StoredValue → ℕ → List Record → List ℕ → Type 0

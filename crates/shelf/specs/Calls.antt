@@ -1,9 +1,9 @@
 -- Calls of `admit` in a row: what they leave, and what a history of them makes of a list.
-use Rattle.std.specs.Prelude.{◌≡◌, ℕ, Bool, List, [], ◌∷◌, Result, Ok, Err}
+use Rattle.std.specs.Prelude.{◌≡◌, ℕ, Bool, List, [], ◌∷◌, ◌++◌, map, Option, Some, None, Result, Ok, Err}
 use Rattle.avl_values.specs.Record.{Record}
-use Rattle.record_layout.specs.RecordsOf.{count_of}
+use Rattle.record_layout.specs.RecordsOf.{records_of, count_of}
 use Rattle.shelf.specs.Archive.{StoredValue}
-use Rattle.shelf.specs.Admits.{Answer, list_after, down_after, Fits}
+use Rattle.shelf.specs.Admits.{Answer, answer_of, list_after, down_after, Fits}
 use Rattle.shelf.specs.declared.receipt.Receipt.{Receipt}
 use Rattle.shelf.specs.declared.receipt.AdmitFault.{AdmitFault}
 
@@ -23,17 +23,43 @@ abbrev pub IsReceiptOf : List ℕ → Result Receipt AdmitFault → Type 0
 IsReceiptOf body (Ok receipt) = receipt.count ≡ count_of body
 IsReceiptOf body (Err fault) = ⊥
 
--- The first calls have these bodies, with receipts.
-abbrev pub AreStored : List (List ℕ) → List Call → Type 0
-AreStored [] calls = Unit {0}
-AreStored (body ∷ bodies) [] = ⊥
-AreStored (body ∷ bodies) (c ∷ calls) = (c.body ≡ body) × IsReceiptOf body c.result × AreStored bodies calls
+-- One call for each of these packets, each a device and a body, in their order, with receipts.
+abbrev pub AreStored : List (ℕ × List ℕ) → List Call → Type 0
+AreStored [] [] = Unit {0}
+AreStored [] (c ∷ cs) = ⊥
+AreStored (p ∷ ps) [] = ⊥
+AreStored (p ∷ ps) (c ∷ cs) = (c.imei ≡ p.0) × (c.body ≡ p.1) × IsReceiptOf p.1 c.result × AreStored ps cs
 
--- what one call brought: a device's records, and the answer
+-- what who admits puts on its calls: two numbers
+abbrev pub Mark : Type 0
+Mark = ℕ × ℕ
+
+abbrev pub no_mark : Mark
+no_mark = (0, 0)
+
+-- what one call brought: a device's records, the answer, and the mark of who admitted them
 pub record Brought : Type 0 where
   pub imei : ℕ
   pub records : List Record
   pub answer : Answer
+  pub mark : Mark
+
+-- what a call with this device, body and answer brought
+abbrev pub brought_by : Mark → ℕ → List ℕ → Result Receipt AdmitFault → Brought
+brought_by mark imei body result = record { imei = imei; records = records_of body; answer = answer_of result; mark = mark }
+
+abbrev pub brought : Mark → Call → Brought
+brought mark c = brought_by mark c.imei c.body c.result
+
+-- the calls that are told, with more behind them; where none are told, none
+abbrev pub with_calls : List Brought → Option (List Brought) → Option (List Brought)
+with_calls more None = None
+with_calls more (Some told) = Some (told ++ more)
+
+-- A call puts itself behind those that are told, under the mark, which stays.
+pub record TellsCall (imei : ℕ) (body : List ℕ) (result : Result Receipt AdmitFault) (mark now : Mark) (told told_now : Option (List Brought)) : Type 0 where
+  pub same : now ≡ mark
+  pub added : told_now ≡ with_calls (brought_by mark imei body result ∷ []) told
 
 -- the list after calls in a row
 abbrev pub replay : List StoredValue → List Brought → List StoredValue

@@ -1,6 +1,8 @@
 pub mod Archive
 pub mod Admits
 pub mod Calls
+pub mod Histories
+pub mod Entries
 pub mod Devices
 pub mod Index
 pub mod Kept

@@ -3,7 +3,7 @@ use Rattle.std.specs.Prelude.{◌≡◌, ℕ, ◌≤◌, ◌^◌, map, Bool, tru
 use Rattle.avl_values.specs.Causes.{IsAbove}
 use Rattle.avl_values.specs.Record.{Record}
 use Rattle.layout.specs.Rows.{whole}
-use Rattle.medium_model.specs.Content.{Content}
+use Rattle.medium_model.specs.Content.{Content, settled}
 use Rattle.medium_model.specs.State.{MediumState, IfTold, Counted}
 use Rattle.record_layout.specs.PacketRows.{packet_verdict}
 use Rattle.record_layout.specs.RecordsOf.{records_of}
@@ -12,8 +12,9 @@ use Rattle.archive_journal.specs.Body.{EntryValue, joined}
 use Rattle.archive_journal.specs.Entry.{IsEntry}
 use Rattle.avl_values.specs.declared.codec.Codec.{Codec}
 use Rattle.archive_journal.specs.Entries.{entries_of}
-use Rattle.archive_journal.specs.Journal.{JournalView, EachHolds, IsEither, entries_told, with_entry}
+use Rattle.archive_journal.specs.Journal.{JournalView, EachHolds, IsTold, entries_told, with_entry}
 use Rattle.archive_journal.specs.Journal as journal
+use Rattle.medium_model.specs.Images.{IsEither}
 use Rattle.shelf.specs.Archive.{StoredValue, fresh, list_of}
 use Rattle.shelf.specs.Admits.{Shelved, Answer, answer_of, Admits}
 use Rattle.shelf.specs.Index.{Keyed, IsComplete}
@@ -37,14 +38,22 @@ front v = record { list = v.list; down = v.down; faults = v.medium.faults }
 pub record Lists (list : List StoredValue) (es : List EntryValue) : Type 0 where
   pub is : list_of es ≡ list
 
--- The shelf is up, and a power loss leaves an archive with its record list.
-pub record IsDurable (v : ShelfView) : Type 0 where
-  pub up : v.down ≡ false
-  pub same : EachHolds v.medium (Lists v.list)
-
 -- What is read has this record list.
 pub record HasList (list : List StoredValue) (c : Content) : Type 0 where
   pub is : list_of (entries_of c.reads) ≡ list
+
+-- The shelf is up. All that is read is durable and has its record list, and a power loss leaves an archive with these entries,
+-- and so with this list.
+pub record IsDurable (v : ShelfView) : Type 0 where
+  pub up : v.down ≡ false
+  pub rest : IfTold v.medium.content (λ c. c ≡ settled c.reads)
+  pub reads : IfTold v.medium.content (HasList v.list)
+  pub told : EachHolds v.medium (IsTold (entries_told v.medium.content))
+  pub same : EachHolds v.medium (Lists v.list)
+
+-- these entries have the list before, or the one after
+pub record ListsEither (before after : List StoredValue) (es : List EntryValue) : Type 0 where
+  pub is : IsEither before after (list_of es)
 
 -- what is true of each shelf
 pub record IsShelf (j : JournalView) (list : List StoredValue) (places : List (Keyed × ℕ)) (down : Bool) (opened : ℕ) : Type 0 where
@@ -78,12 +87,13 @@ abbrev pub calls_for : List Record → ℕ
 calls_for [] = 0
 calls_for (r ∷ rs) = 4
 
--- how many calls of the medium a call of `admit` makes: none where it has nothing to append, or is refused before
+-- how many calls of the medium a call of `admit` makes: none where it has nothing to append, or is refused before. So it
+-- never answers MediumFault where nothing is new.
 abbrev pub admit_calls : List Record → Answer → ℕ
 admit_calls new (Ok places) = calls_for new
 admit_calls new (Err (Down faults)) = 0
 admit_calls new (Err NoMemory) = 0
-admit_calls new (Err (MediumFault faults)) = 4
+admit_calls new (Err (MediumFault faults)) = calls_for new
 
 abbrev pub IsMediumFault : Answer → Type 0
 IsMediumFault (Ok places) = ⊥
@@ -105,7 +115,7 @@ pub record Leaves (old : ShelfView) (imei : ℕ) (body : List ℕ) (result : Res
   pub opened : new.opened ≡ old.opened
   pub durable : new.down ≡ false → IsDurable new
   pub fell : new.down ≡ true → IsAbove new.medium.faults new.opened
-  pub images : old.down ≡ false → EachHolds new.medium (IsEither (entries_told old.medium.content) (with_entry (new_entry old.list imei (records_of body)) (entries_told old.medium.content)))
+  pub images : old.down ≡ false → EachHolds new.medium (journal.IsEither (entries_told old.medium.content) (with_entry (new_entry old.list imei (records_of body)) (entries_told old.medium.content)))
   pub untouched : old.down ≡ true → new.medium ≡ old.medium
   pub unwritten : WritesNothing (fresh old.list imei (records_of body)) (answer_of result) → new.medium.content ≡ old.medium.content
   pub counted : Counted (admit_calls (fresh old.list imei (records_of body)) (answer_of result)) old.medium new.medium (IsMediumFault (answer_of result))

@@ -33,12 +33,19 @@ pub enum AdmitFault {
 
 /// Where packets are admitted, one call after the other.
 pub trait Admit {
-    ghost use Rattle.std.specs.Prelude.{ℕ, List, Result};
+    ghost use Rattle.std.specs.Prelude.{ℕ, List, Option, Result};
+    ghost use Rattle.shelf.specs.Calls.{Brought, Mark, TellsCall};
     ghost use Rattle.shelf.specs.declared.receipt.Receipt.{Receipt};
     ghost use Rattle.shelf.specs.declared.receipt.AdmitFault.{AdmitFault};
 
     /// What a call leaves: the state before, the device, the body, the answer, and the state after.
     ghost leaves: { Self → ℕ → List ℕ → Result Receipt AdmitFault → Self → Type 0 };
+
+    /// The calls so far, in order, where it tells them.
+    ghost calls: { Self → Option (List Brought) };
+
+    /// What it marks its calls with.
+    ghost mark: { Self → Mark };
 
     /// Admits the records of a data body for a device.
     fn admit(&mut self, imei: Imei, body: &[u8]) -> Result<Receipt, AdmitFault>
@@ -46,4 +53,7 @@ pub trait Admit {
         requires accepted { IsAccepted body.now }
         ensures leaves { leaves self.old imei body.now result self.new }
         ensures receipt { IfOk result (λ r. r.count ≡ count_of body.now) };
+
+    /// A call puts itself behind those that are told, under the mark, which no call changes.
+    ghost tells: { (s : Self) (imei : ℕ) (body : List ℕ) (result : Result Receipt AdmitFault) (t : Self) → leaves s imei body result t → TellsCall imei body result (mark s) (mark t) (calls s) (calls t) };
 }

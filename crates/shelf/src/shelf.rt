@@ -2,11 +2,11 @@ ghost use Rattle.std.specs.Prelude.{◌≡◌, ◌≤◌, ◌^◌, true, false, 
 ghost use Rattle.avl_values.specs.Causes.{IsAbove};
 ghost use Rattle.medium_model.specs.CallsLeft.{after, unlimited};
 ghost use Rattle.medium_model.specs.Content.{after_sync};
-ghost use Rattle.medium_model.specs.State.{IfTold, told};
+ghost use Rattle.medium_model.specs.State.{IfTold, IsRun, told};
 ghost use Rattle.medium_model.specs.PowerLoss.{EveryImage};
 ghost use Rattle.record_layout.specs.RecordsOf.{count_of};
 ghost use Rattle.archive_journal.specs.Entries.{IsArchive, entries_of};
-ghost use Rattle.archive_journal.specs.Journal.{IsRun, KeepsEntries};
+ghost use Rattle.archive_journal.specs.Journal.{KeepsEntries};
 ghost use Rattle.shelf.specs.Archive.{IsOnce, devices_of, list_of, places_of};
 ghost use Rattle.shelf.specs.Shelf.{IsAccepted, IsDurable, Leaves};
 
@@ -202,9 +202,18 @@ impl<M: Medium> Shelf<M> {
 }
 
 impl<M: Medium> Admit for Shelf<M> {
+    ghost use Rattle.std.specs.Prelude.{None, refl};
+    ghost use Rattle.shelf.specs.Calls.{no_mark};
     ghost use Rattle.shelf.specs.Shelf.{Leaves as ShelfLeaves};
 
     ghost leaves = { ShelfLeaves };
+
+    // It tells none of its calls.
+    ghost calls = { λ _. None };
+
+    ghost mark = { λ _. no_mark };
+
+    ghost tells = { λ _ _ _ _ _ _. record { same = refl; added = refl } };
 
     fn admit(&mut self, imei: Imei, body: &[u8]) -> Result<Receipt, AdmitFault> {
         Shelf::admit(self, imei, body)

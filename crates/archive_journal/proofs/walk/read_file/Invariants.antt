@@ -1,6 +1,5 @@
 use Rattle.std.proofs.Common.{◌≡◌, ◌+◌, ◌-◌, ◌^◌, length, take, vec_len}
-use Rattle.medium_model.specs.State.{IfTold}
-use Rattle.archive_journal.specs.Journal.{CountedMaybe}
+use Rattle.medium_model.specs.State.{CountedMaybe, IfTold}
 use Rattle.archive_journal.proofs.walk.read_file.Given as goal
 
 abbrev pub invariant-pieces : goal.invariant-pieces

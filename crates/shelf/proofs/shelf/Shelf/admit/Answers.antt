@@ -85,7 +85,9 @@ returns-in-Err-MediumFault-clause-leaves g c =
     let after = shelf-fell c.self.inside.journal c.keep.new.journal c.self.inside.list.items c.stage.new.list.items _ _ _ _ _ c.self.invariant.0 c.in-Ok.ensures.begins c.in-Ok.ensures.complete same h.counted.later (h.counted.cause f) in
     let P : ShelfView → Type 0 = λ v. Leaves v c.args.imei c.args.body.now (Err (MediumFault c.faults-in-Err-MediumFault.result))
     (record { medium = c.keep.new.journal.medium; list = c.truncate-in-Err-MediumFault.new.self.items; down = true; opened = c.self.inside.opened }) in
-    subst P c.self.view_is (leaves-fault _ _ _ _ _ c.args.imei c.args.body.now c.self.invariant.0 c.if-self.false _ _ _ _ _ same after new c.faults-in-Err-MediumFault.ensures h.images
+    let grown : length c.stage.new.list.items ≡ length c.self.inside.list.items → ⊥ = λ same. c.if-len-known.false (search rules) in
+    subst P c.self.view_is (leaves-fault _ _ _ _ _ c.args.imei c.args.body.now c.self.invariant.0 c.if-self.false _ _ _ _ _ same after new
+    (calls-four _ (new-some c.self.inside.list.items c.stage.new.list.items c.args.imei _ c.in-Ok.ensures.added grown)) c.faults-in-Err-MediumFault.ensures h.images
     (counted-as (ap (λ (x : KeepFault). keep_calls (Err x)) c.in-Err-MediumFault.field-0-is) (λ _. f) (λ _. tt) h.counted))
 
 pub note-requires-clause-grown : goal.note-requires-clause-grown
