@@ -1,3 +1,4 @@
+pub mod AnswerLaws
 pub mod CommandFills
 pub mod CommandLaws
 pub mod ContentFills

@@ -1,3 +1,4 @@
+pub mod Answers
 pub mod CommandRows
 pub mod Laws
 pub mod Spelling

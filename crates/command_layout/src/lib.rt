@@ -6,6 +6,7 @@ mod laws;
 mod way;
 
 pub use laws::{
-    command_is_whole, command_verdict_stays, no_command_begins_another, whole_is_command,
+    answer_fits, answer_is_command, answer_is_well_formed, command_is_value, command_is_whole,
+    command_verdict_stays, no_command_begins_another, value_is_command, whole_is_command,
 };
 pub use way::Way;
