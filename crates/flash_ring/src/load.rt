@@ -1,4 +1,4 @@
-ghost use Rattle.std.specs.Prelude.{◌≡◌, ◌≢◌, ◌⊎◌, ◌+◌, ◌*◌, ◌<◌, ◌≤◌, ◌^◌, ℕ, length, Some, None, IfOk, IfErr, OnOk, OnErr, IsErrOf};
+ghost use Rattle.std.specs.Prelude.{◌≡◌, ◌≢◌, ◌⊎◌, ◌+◌, ◌*◌, ◌<◌, ◌≤◌, ◌^◌, ℕ, false, length, Some, None, IfOk, IfErr, OnOk, OnErr, IsErrOf, IsTrue};
 ghost use Rattle.medium_model.specs.CallsLeft.{Fails};
 ghost use Rattle.medium_model.specs.Content.{after_sync};
 ghost use Rattle.medium_model.specs.Images.{IsEither};
@@ -79,7 +79,15 @@ pub fn closed_slots(alloc: Global, slots: u16) -> Result<Vec<Option<Held>>, NoMe
     Ok(closed)
 }
 
-// Reads every slot in place of what was known of it. A read that gives less than a whole slot is no closed slot.
+// Whether a read gave less than a whole slot. That is no closed slot: the medium ends there.
+fn is_short(count: usize) -> bool
+    ensures short { IsTrue result → count < 272 }
+    ensures whole { result ≡ false → 272 ≤ count }
+{
+    count < SLOT_BYTES
+}
+
+// Reads every slot in place of what was known of it.
 fn read_slots<M: Medium>(medium: &mut M, slots: &mut [Option<Held>]) -> Result<(), ReopenFault>
     requires few { length slots.old ≤ 4096 }
     ensures content { (M.state medium.new).content ≡ (M.state medium.old).content }
@@ -90,11 +98,10 @@ fn read_slots<M: Medium>(medium: &mut M, slots: &mut [Option<Held>]) -> Result<(
 {
     for slot in 0..slots.len() {
         let mut bytes = [0; SLOT_BYTES];
-        let place = (SLOT_BYTES * slot) as u64;
-        let count = medium.read(place, &mut bytes)?;
-        if count < SLOT_BYTES {
+        let count = medium.read((SLOT_BYTES * slot) as u64, &mut bytes)?;
+        if is_short(count) {
             return Err(ReopenFault::WrongSize {
-                got: place + count as u64,
+                got: (SLOT_BYTES * slot + count) as u64,
                 wanted: (SLOT_BYTES * slots.len()) as u64,
             });
         }

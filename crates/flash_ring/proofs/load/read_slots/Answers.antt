@@ -11,17 +11,17 @@ returns-in_err-count-clause-counted g c = record {
   counted = counted-as refl (λ _. refl) (λ _. search rules) (counted-then c.loop-slot.invariant.counted c.in_err-count.ensures.counted);
 }
 
-pub returns-then-count-lt-SLOT_BYTES-clause-counted : goal.returns-then-count-lt-SLOT_BYTES-clause-counted
-returns-then-count-lt-SLOT_BYTES-clause-counted g c = record {
+pub returns-then-is_short-clause-counted : goal.returns-then-is_short-clause-counted
+returns-then-is_short-clause-counted g c = record {
   calls = c.loop-slot.slot + 1;
   counted = counted-as refl (λ e. cc) (λ e. absurd (false≢true e)) (counted-then c.loop-slot.invariant.counted c.in_ok-count.ensures.counted);
 }
 
-pub returns-then-count-lt-SLOT_BYTES-clause-refused : goal.returns-then-count-lt-SLOT_BYTES-clause-refused
-returns-then-count-lt-SLOT_BYTES-clause-refused g c =
+pub returns-then-is_short-clause-refused : goal.returns-then-is_short-clause-refused
+returns-then-is_short-clause-refused g c =
     let low : c.loop-slot.slot < length c.args.slots.now = (let same = c.loop-slot.auto.slots in omega arith) in
     never-short _ (length c.args.slots.now) _
-    (short-read _ _ (length c.args.slots.now) c.loop-slot.slot c.in_ok-count.count c.loop-slot.invariant.content low c.if-count-lt-SLOT_BYTES.true c.in_ok-count.ensures.count)
+    (short-read _ _ (length c.args.slots.now) c.loop-slot.slot c.in_ok-count.count c.loop-slot.invariant.content low (c.is_short.ensures.short c.if-is_short.true) c.in_ok-count.ensures.count)
 
 pub returns-in-Err-clause-counted : goal.returns-in-Err-clause-counted
 returns-in-Err-clause-counted g c = record {
@@ -32,14 +32,14 @@ returns-in-Err-clause-counted g c = record {
 pub returns-in-Err-clause-refused : goal.returns-in-Err-clause-refused
 returns-in-Err-clause-refused g c =
     let inv = c.loop-slot.invariant in
-    let whole : c.in_ok-count.count ≡ 272 = (let size = c.read.auto.into in omega (arith, c.in_ok-count.ensures.bound)) in
+    let whole : c.in_ok-count.count ≡ 272 = (let size = c.read.auto.into in omega (arith, c.in_ok-count.ensures.bound, c.is_short.ensures.whole c.if-is_short.false)) in
     read-bad (length c.args.slots.now) c.loop-slot.slot _ c.loop-slot.slots (omega arith) c.loop-slot.auto.slots _ inv.has_read
     (slot-read _ _ c.loop-slot.slot c.in_ok-count.count c.read.new.into inv.content whole c.in_ok-count.ensures.bytes) c.in-Err.ensures.unsound
 
 pub loop-slot-preserved : goal.loop-slot-preserved
 loop-slot-preserved g c =
     let inv = c.loop-slot.invariant in
-    let whole : c.in_ok-count.count ≡ 272 = (let size = c.read.auto.into in omega (arith, c.in_ok-count.ensures.bound)) in
+    let whole : c.in_ok-count.count ≡ 272 = (let size = c.read.auto.into in omega (arith, c.in_ok-count.ensures.bound, c.is_short.ensures.whole c.if-is_short.false)) in
     record {
       counted = counted-then inv.counted (counted-as refl (λ f. absurd f) false≢true c.in_ok-count.ensures.counted);
       content = c.in_ok-count.ensures.content ∙ inv.content;
