@@ -34,7 +34,7 @@ impl Model for MemoryBench {
 
     ghost view = { λ b. record { content = b.content.content; tears = b.tears.tears; ready = b.content.ready; tear = b.tear; power = b.power; faults = b.faults } };
 
-    ghost invariant = { λ b. IsBench b.content b.tears };
+    ghost invariant = { λ b. IsBench b.content b.tears b.tear b.power };
 }
 
 impl MemoryBench {
@@ -212,6 +212,7 @@ impl Bench for MemoryBench {
     fn restart(&mut self)
         ensures image { IsRestarted (bench_state self.old).content (bench_state self.new).content }
         ensures unarmed { (bench_state self.new).left ≡ unlimited }
+        ensures was_unarmed { self.old.power ≡ Power.Unarmed → self.old.tear ≡ Tear.Keep }
         ensures ready { self.old.ready ≤ self.new.ready }
         ensures faults { self.new.faults ≡ self.old.faults }
 
