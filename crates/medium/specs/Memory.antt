@@ -76,8 +76,9 @@ pub record BenchView : Type 0 where
   pub power : Power
   pub faults : ℕ
 
--- a bench's images fit its content
-pub record IsBench (held : Held) (images : TearsHeld) : Type 0 where
+-- a bench's images fit its content, and unarmed it keeps what is durable
+pub record IsBench (held : Held) (images : TearsHeld) (tear : Tear) (power : Power) : Type 0 where
+  pub unarmed : power ≡ Unarmed → tear ≡ Keep
   pub room : held.ready ≤ images.room
   pub zero : IsTornImage held.content images.tears.zero
   pub opened : IsTornImage held.content images.tears.opened
