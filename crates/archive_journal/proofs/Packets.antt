@@ -60,7 +60,7 @@ whole-long codec packet w =
     omega (arith, ap length w.is.is, length-append joined (length w.rs ∷ []))
 
 -- so a body that has none isn't well formed
-is_whole-true : (v : Verdict PacketHead) → is_whole v ≡ true → (head : PacketHead) × (n : ℕ) × (v ≡ whole head n)
+pub is_whole-true : (v : Verdict PacketHead) → is_whole v ≡ true → (head : PacketHead) × (n : ℕ) × (v ≡ whole head n)
 is_whole-true (whole head n) is = (head, n, refl)
 is_whole-true short is = absurd (let no : false ≡ true = is in cc)
 is_whole-true (fault kind place) is = absurd (let no : false ≡ true = is in cc)
