@@ -11,7 +11,8 @@ use Rattle.layout.proofs.MappedLaws.{map_fill, map_take}
 use Rattle.record_layout.specs.PacketRows.{packet_rows}
 use Rattle.record_layout.specs.declared.head.PacketHead.{PacketHead}
 use Rattle.record_layout.proofs.Fitting.{exactly, is_exactly}
-use Rattle.frame_layout.specs.Items.{IsBody, login_of}
+use Rattle.record_layout.specs.Body.{IsBody}
+use Rattle.frame_layout.specs.Items.{login_of}
 use Rattle.frame_layout.specs.Logins.{login_rows}
 use Rattle.frame_layout.proofs.LoginFills.{login_fill, login_take}
 use Rattle.frame_layout.proofs.SaidBytes.{said, saying}

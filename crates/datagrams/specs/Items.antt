@@ -3,7 +3,8 @@ use Rattle.std.specs.Prelude.{◌≡◌, ℕ, ◌<◌, ◌^◌, List, [], ◌∷
 use Rattle.std.specs.Int.{to_be_bytes, w16}
 use Rattle.layout.specs.Bytes.{AreBytes}
 use Rattle.record_layout.specs.declared.head.PacketHead.{PacketHead}
-use Rattle.frame_layout.specs.Items.{IsBody, login_of}
+use Rattle.record_layout.specs.Body.{IsBody}
+use Rattle.frame_layout.specs.Items.{login_of}
 use Rattle.datagrams.specs.Values.{DatagramValue, ReplyValue}
 
 -- the three numbers, the IMEI as a login holds it, and the data body

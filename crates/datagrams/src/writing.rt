@@ -5,7 +5,8 @@ ghost use Rattle.std.specs.Int.{to_be_bytes, w16};
 ghost use Rattle.arrayvec.specs.ArrayVec.{array_vec_len};
 ghost use Rattle.layout.specs.Bytes.{AreBytes};
 ghost use Rattle.record_layout.specs.declared.head.PacketHead.{PacketHead};
-ghost use Rattle.frame_layout.specs.Items.{IsBody, login_of};
+ghost use Rattle.record_layout.specs.Body.{IsBody};
+ghost use Rattle.frame_layout.specs.Items.{login_of};
 ghost use Rattle.datagrams.specs.Items.{IsDatagram, IsReply, content_of, datagram_of};
 ghost use Rattle.datagrams.specs.Views.{reply_value_of, value_of};
 

@@ -5,7 +5,7 @@ use Rattle.layout.specs.Rows.{Verdict, whole}
 use Rattle.record_layout.specs.Packet.{IsPacket}
 use Rattle.record_layout.specs.PacketRows.{packet_verdict}
 use Rattle.record_layout.specs.declared.head.PacketHead.{PacketHead}
-use Rattle.frame_layout.proofs.UpLaws.{judged_body}
+use Rattle.record_layout.proofs.BodyLaws.{judged_body}
 use Rattle.show_lines.specs.PacketLines.{packet_lines}
 use Rattle.fmb_show.specs.ItemLines.{head_lines}
 

@@ -1,6 +1,5 @@
 pub mod DatagramPrints
-pub mod DownShows
 pub mod Printings
 pub mod ReadingPrints
 pub mod Shows
-pub mod UpShows
+pub mod StreamShows

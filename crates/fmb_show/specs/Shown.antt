@@ -4,7 +4,7 @@ use Rattle.std.specs.Prelude.{ℕ, List, [], ◌∷◌, ◌++◌, length, Bool, 
 use Rattle.std.specs.List.{flat_map}
 use Rattle.avl_values.specs.declared.fault.FaultKind.{FaultKind}
 use Rattle.layout.specs.Rows.{Rows, Verdict, whole, short, fault, judge}
-use Rattle.item_streams.specs.Streams.{Reading, reading_of, rows_behind}
+use Rattle.item_streams.specs.Streams.{Reading, next_rows}
 use Rattle.fmb_text.specs.Refused.{refused_line}
 use Rattle.capture_text.specs.Capture.{LineValue, capture_of, fault_name}
 use Rattle.capture_text.specs.declared.fault.CaptureRefusal.{CaptureRefusal}
@@ -13,6 +13,7 @@ use Rattle.capture_text.specs.declared.word.CaptureWord.TheVariants.{Up, Frames,
 use Rattle.show_lines.specs.ItemTexts.{fault_text, short_text}
 use Rattle.show_lines.specs.Json.{as_line}
 use Rattle.frame_layout.specs.DownRows.{down_rows}
+use Rattle.frame_layout.specs.Readings.{down_reading, up_reading}
 use Rattle.frame_layout.specs.UpRows.{up_rows}
 use Rattle.datagrams.specs.DatagramRows.{datagram_verdict, reply_verdict}
 use Rattle.datagrams.specs.Values.{DatagramValue, ReplyValue}
@@ -35,7 +36,7 @@ ended_by_fault text = record { text = text; faulty = true }
 abbrev pub and_then : Print → Print → Print
 and_then first second = if first.faulty then first else record { text = first.text ++ second.text; faulty = second.faulty }
 
--- so many bytes of an item that is unfinished
+-- how many bytes there are of an item that is unfinished
 abbrev pub short_print : List ℕ → ℕ → Print
 short_print [] line = only []
 short_print (byte ∷ more) line = only (as_line (short_text (length (byte ∷ more)) line))
@@ -44,7 +45,7 @@ short_print (byte ∷ more) line = only (as_line (short_text (length (byte ∷ m
 abbrev pub fault_print : FaultKind → ℕ → ℕ → Print
 fault_print kind place line = ended_by_fault (as_line (fault_text (record { kind = kind; place = place }) line))
 
--- the bytes behind the last item, by the verdict on them
+-- the bytes after the last item, by the verdict on them
 abbrev pub rest_print : {V : Type 0} → Verdict V → List ℕ → ℕ → Print
 rest_print (whole v n) rest line = only []
 rest_print short rest line = short_print rest line
@@ -53,15 +54,15 @@ rest_print (fault kind place) rest line = fault_print kind place line
 -- what was read of a stream: the lines of its items, and what is printed of its rest
 abbrev pub reading_print : {V : Type 0} → (V → ℕ → List ℕ) → Rows V → Rows V → Reading V → ℕ → Print
 reading_print lines first later reading line =
-    and_then (only (flat_map (λ item. lines item.value line) reading.items)) (rest_print (judge (rows_behind first later reading.items) 0 reading.rest) reading.rest line)
+    and_then (only (flat_map (λ item. lines item.value line) reading.items)) (rest_print (judge (next_rows first later reading.items) 0 reading.rest) reading.rest line)
 
--- a stream up, from the login or from behind it
+-- a stream up, from the login or from after it
 abbrev pub up_print : Bool → List ℕ → ℕ → Print
-up_print after_login bytes line = reading_print up_lines (up_rows after_login) (up_rows true) (reading_of (up_rows after_login) (up_rows true) 0 bytes) line
+up_print after_login bytes line = reading_print up_lines (up_rows after_login) (up_rows true) (up_reading after_login bytes) line
 
--- a stream down, from the login's answer or from behind it
+-- a stream down, from the login's answer or from after it
 abbrev pub down_print : Bool → List ℕ → ℕ → Print
-down_print after_answer bytes line = reading_print down_lines (down_rows after_answer) (down_rows true) (reading_of (down_rows after_answer) (down_rows true) 0 bytes) line
+down_print after_answer bytes line = reading_print down_lines (down_rows after_answer) (down_rows true) (down_reading after_answer bytes) line
 
 -- a datagram or a reply, by the verdict on it: its lines, or its first fault
 abbrev pub item_print : {V : Type 0} → (V → ℕ → List ℕ) → Verdict V → ℕ → Print

@@ -9,7 +9,7 @@ use command_codecs::Way;
 use frame_channel::{Down, DownItem};
 use show_lines::{Item, push_line};
 
-/// Appends what is printed of a stream down, from the login's answer or from behind it, and says whether a fault ends it. At
+/// Appends what is printed of a stream down, from the login's answer or from after it, and says whether a fault ends it. At
 /// NoMemory a part of it may have been appended.
 pub fn push_down(
     out: &mut Vec<u8>,

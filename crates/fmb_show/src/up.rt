@@ -1,5 +1,6 @@
 //! A stream up that is printed.
-ghost use Rattle.std.specs.Prelude.{◌≡◌, ◌++◌, [], false, IfOk};
+ghost use Rattle.std.specs.Prelude.{◌≡◌, ◌++◌, IfOk};
+ghost use Rattle.item_streams.specs.Readers.{fresh};
 ghost use Rattle.fmb_show.specs.Shown.{up_print};
 
 use crate::command::push_command;
@@ -9,9 +10,9 @@ use command_codecs::Way;
 use frame_channel::{Up, UpItem};
 use show_lines::{Item, push_line, push_packet_lines};
 
-/// Begins anew before the login, or behind it.
+/// Begins anew before the login, or after it.
 fn begin(up: &mut Up, after_login: bool)
-    ensures { up.new ≡ record { have = []; after_login = after_login; failed = false; body = [] } }
+    ensures { up.new ≡ fresh after_login }
 {
     if after_login {
         up.begin_frames();
@@ -20,7 +21,7 @@ fn begin(up: &mut Up, after_login: bool)
     }
 }
 
-/// Appends what is printed of a stream up, from the login or from behind it, and says whether a fault ends it. The reader begins
+/// Appends what is printed of a stream up, from the login or from after it, and says whether a fault ends it. The reader begins
 /// anew. At NoMemory a part of it may have been appended.
 pub fn push_up(
     out: &mut Vec<u8>,

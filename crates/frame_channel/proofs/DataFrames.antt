@@ -13,13 +13,13 @@ use Rattle.record_layout.specs.PacketRows.{packet_verdict}
 use Rattle.frame_layout.specs.Items.{frame_of}
 use Rattle.frame_layout.specs.UpRows.{up_rows, up_verdict}
 use Rattle.frame_layout.specs.Values.{UpValue, packet}
-use Rattle.frame_layout.specs.declared.body_kind.BodyKind.TheVariants.{Packet}
-use Rattle.frame_layout.proofs.UpLaws.{judged_body, up_stays, up_whole}
-use Rattle.frame_channel.specs.BodyIn.{body_in}
+use Rattle.record_layout.proofs.BodyLaws.{judged_body}
+use Rattle.frame_layout.proofs.UpLaws.{up_stays, up_whole}
 use Rattle.frame_channel.specs.DataFrames.{BeginsWith, BeginsWithBody, IsNext}
-use Rattle.frame_channel.specs.UpPushes.{Pushed, UpState}
-use Rattle.frame_channel.specs.declared.up_item.UpItem.TheVariants as item
-use Rattle.frame_channel.proofs.UpTakes.{frame_verdict_says}
+use Rattle.item_streams.specs.Readers.{Reader, item}
+use Rattle.item_streams.specs.Readers as readers
+use Rattle.frame_channel.specs.UpPushes.{PushedUp}
+use Rattle.frame_channel.specs.declared.up_item.UpItem.TheVariants as items
 
 -- The parts of a frame are the frame.
 
@@ -77,33 +77,25 @@ before after_login v bytes k (fault kind place) is below e =
 
 -- The frame that is the next item is taken.
 
-same_body : (head : PacketHead) (a b : List ℕ) (n : ℕ) → whole (packet head a) n ≡ whole (packet head b) n → a ≡ b
-same_body head a b n e = cc
-
-pub taken : (old : UpState) (head : PacketHead) (body piece : List ℕ) → IsNext old head body piece → Pushed old (record old { body = body }) piece (12 + length body) (item.Packet head)
+pub taken : (old : Reader) (head : PacketHead) (body piece : List ℕ) → IsNext old head body piece → PushedUp old (record old { body = body }) piece (12 + length body) (items.Packet head)
 taken old head body piece next =
     let n = 12 + length body in
     let bytes = take n piece in
     let len : length bytes ≡ n = length-take-le n piece next.begins.fits in
     let have : old.have ++ bytes ≡ bytes = ap (λ h. h ++ bytes) next.none in
     let judged : up_verdict true bytes ≡ whole (packet head body) (length bytes) = ap (up_verdict true) (sym (append-nil bytes)) ∙ up_whole true (packet head body) bytes [] next.begins.is in
-    let says = frame_verdict_says true (Packet head) bytes (body, judged) in
-    let is_body : body ≡ body_in bytes = same_body head body (body_in bytes) (length bytes) (sym judged ∙ says.2) in
-    let place : old.after_login ≡ true = next.after_login in
+    let place : old.after_first ≡ true = next.after_login in
     record {
       within_piece = next.begins.fits;
       some = λ some. omega arith;
-      verdict = ap (λ b. up_verdict b (old.have ++ bytes)) place ∙ ap (up_verdict true) have ∙ says.2 ∙ ap (λ (x : List ℕ). whole (packet head (body_in x)) (length x)) (sym have);
+      verdict = ap (λ b. up_verdict b (old.have ++ bytes)) place ∙ ap (up_verdict true) have ∙ judged ∙ ap (λ (x : List ℕ). whole (packet head body) (length x)) (sym have);
       first = λ k below.
           let front : take k bytes ≡ take k piece = take-take k n piece (omega arith) in
           ap (λ b. up_verdict b (old.have ++ take k piece)) place ∙ ap (λ h. up_verdict true (h ++ take k piece)) next.none ∙ ap (up_verdict true) (sym front)
           ∙ before true (packet head body) bytes k (up_verdict true (take k bytes)) judged (omega (arith, len)) refl;
-      all_for_more = λ more. absurd (let never : item.Packet head ≡ item.More = more in cc);
-      at_place = place;
-      state = ap (λ (x : List ℕ). (let s : UpState = record { have = old.have; after_login = old.after_login; failed = old.failed; body = x } in s)) is_body
-          ∙ ap (λ (h : List ℕ). (let s : UpState = record { have = h; after_login = old.after_login; failed = old.failed; body = body_in bytes } in s)) next.none
-          ∙ ap (λ (b : Bool). (let s : UpState = record { have = []; after_login = b; failed = old.failed; body = body_in bytes } in s)) place
-          ∙ ap (λ (x : List ℕ). (let s : UpState = record { have = []; after_login = true; failed = old.failed; body = body_in x } in s)) (sym have);
+      all_for_more = λ is_more. absurd (let never : item (packet head body) ≡ readers.more = is_more in cc);
+      state = ap (λ (h : List ℕ). (let s : Reader = record { have = h; after_first = old.after_first; failed = old.failed; body = body } in s)) next.none
+          ∙ ap (λ (b : Bool). (let s : Reader = record { have = []; after_first = b; failed = old.failed; body = body } in s)) place;
     }
 
 -- a body behind the first eight bytes of a buffer

@@ -21,7 +21,8 @@ use Rattle.frame_layout.proofs.Lengths.{short_down_few, starts_short_down}
 use Rattle.frame_layout.proofs.Places.{SaysDown, SaysOrder, says_down}
 use Rattle.frame_channel.specs.BodyIn.{body_in}
 use Rattle.frame_channel.specs.DownMachines.{HasTaken, InCount, InFrame}
-use Rattle.frame_channel.specs.DownPushes.{DownState, PushedByte}
+use Rattle.item_streams.specs.Readers.{Reader}
+use Rattle.frame_channel.specs.DownPushes.{PushedByteDown}
 use Rattle.frame_channel.specs.FrameCursors.{frame_verdict}
 use Rattle.frame_channel.specs.FrameMachines as frame_machine
 use Rattle.frame_channel.specs.declared.down_item.DownItem.TheVariants.{More, Login, Count, Order, Broken}
@@ -96,15 +97,6 @@ whole_says after_answer v bytes e =
     let k : f.0 ≡ length bytes = omega (arith, f.1) in
     subst (SaysDown after_answer v) (ap (λ n. take n bytes) k ∙ take-length bytes) (says_down after_answer v (take f.0 bytes) f.3)
 
-answer_place : (after_answer : Bool) (n : ℕ) (bytes : List ℕ) → SaysDown after_answer (answer n) bytes → after_answer ≡ false
-answer_place false n bytes s = refl
-answer_place true n bytes (inl s) = absurd (let e = s.value in cc)
-answer_place true n bytes (inr s) = absurd (let e = s.value in cc)
-
-count_place : (after_answer : Bool) (n : ℕ) (bytes : List ℕ) → SaysDown after_answer (count n) bytes → after_answer ≡ true
-count_place false n bytes s = absurd (let e = s.value in cc)
-count_place true n bytes s = refl
-
 order_place : (after_answer : Bool) (body bytes : List ℕ) → SaysDown after_answer (order body) bytes → (after_answer ≡ true) × SaysOrder (order body) bytes
 order_place false body bytes s = absurd (let e = s.value in cc)
 order_place true body bytes (inl s) = absurd (let e = s.value in cc)
@@ -121,27 +113,27 @@ order_says after_answer bytes (body, e) =
 
 -- a reader's fields as contracts see them
 
-abbrev pub seen : List ℕ → List ℕ → Bool → Bool → DownState
-seen have last after_answer failed = record { have = have; after_answer = after_answer; failed = failed; body = body_in last }
+abbrev pub seen : List ℕ → List ℕ → Bool → Bool → Reader
+seen have last after_answer failed = record { have = have; after_first = after_answer; failed = failed; body = body_in last }
 
-pub on_byte : (have last : List ℕ) (b : ℕ) (after_answer failed : Bool) (m : DownMachine) → HasTaken m after_answer (have ++ b ∷ []) → PushedByte (seen have last after_answer failed) (seen (have ++ b ∷ []) last after_answer failed) b More
-on_byte have last b after_answer failed m taking = record { verdict = has_short m after_answer (have ++ b ∷ []) taking; at_place = tt; state = refl }
+pub on_byte : (have last : List ℕ) (b : ℕ) (after_answer failed : Bool) (m : DownMachine) → HasTaken m after_answer (have ++ b ∷ []) → PushedByteDown (seen have last after_answer failed) (seen (have ++ b ∷ []) last after_answer failed) b More
+on_byte have last b after_answer failed m taking = record { verdict = has_short m after_answer (have ++ b ∷ []) taking; state = refl }
 
 pub answer_byte : (have last : List ℕ) (b n : ℕ) (after_answer failed : Bool) → down_verdict after_answer (have ++ b ∷ []) ≡ whole (answer n) (length (have ++ b ∷ []))
-    → PushedByte (seen have last after_answer failed) (seen [] last true failed) b (Login n)
-answer_byte have last b n after_answer failed e = record { verdict = e; at_place = answer_place after_answer n (have ++ b ∷ []) (whole_says after_answer (answer n) (have ++ b ∷ []) e); state = refl }
+    → PushedByteDown (seen have last after_answer failed) (seen [] last true failed) b (Login n)
+answer_byte have last b n after_answer failed e = record { verdict = e; state = refl }
 
 pub count_byte : (have last : List ℕ) (b n : ℕ) (after_answer failed : Bool) → down_verdict after_answer (have ++ b ∷ []) ≡ whole (count n) (length (have ++ b ∷ []))
-    → PushedByte (seen have last after_answer failed) (seen [] last true failed) b (Count n)
-count_byte have last b n after_answer failed e = record { verdict = e; at_place = count_place after_answer n (have ++ b ∷ []) (whole_says after_answer (count n) (have ++ b ∷ []) e); state = refl }
+    → PushedByteDown (seen have last after_answer failed) (seen [] last true failed) b (Count n)
+count_byte have last b n after_answer failed e = record { verdict = e; state = refl }
 
 pub order_byte : (have last : List ℕ) (b : ℕ) (after_answer failed : Bool) → (body : List ℕ) × (down_verdict after_answer (have ++ b ∷ []) ≡ whole (order body) (length (have ++ b ∷ [])))
-    → PushedByte (seen have last after_answer failed) (seen [] (have ++ b ∷ []) true failed) b Order
-order_byte have last b after_answer failed e = let s = order_says after_answer (have ++ b ∷ []) e in record { verdict = s.1; at_place = s.0; state = refl }
+    → PushedByteDown (seen have last after_answer failed) (seen [] (have ++ b ∷ []) true failed) b Order
+order_byte have last b after_answer failed e = let s = order_says after_answer (have ++ b ∷ []) e in record { verdict = s.1; state = refl }
 
 pub broken_byte : (have last : List ℕ) (b : ℕ) (after_answer failed : Bool) (found : Fault) → down_verdict after_answer (have ++ b ∷ []) ≡ fault found.kind found.place
-    → PushedByte (seen have last after_answer failed) (seen (have ++ b ∷ []) last after_answer true) b (Broken found)
-broken_byte have last b after_answer failed found e = record { verdict = e; at_place = tt; state = refl }
+    → PushedByteDown (seen have last after_answer failed) (seen (have ++ b ∷ []) last after_answer true) b (Broken found)
+broken_byte have last b after_answer failed found e = record { verdict = e; state = refl }
 
 -- the answer, a count, and four zero bytes, once the last byte is there
 

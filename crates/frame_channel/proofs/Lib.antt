@@ -2,14 +2,9 @@ pub mod BodySteps
 pub mod BodyTakes
 pub mod DataFrames
 pub mod Digits
-pub mod DownPieces
-pub mod DownReads
 pub mod DownSteps
 pub mod FieldSteps
 pub mod FrameSteps
 pub mod LentBodies
-pub mod StreamSteps
-pub mod UpPieces
-pub mod UpReads
 pub mod UpSteps
 pub mod UpTakes

@@ -6,14 +6,15 @@ use Rattle.layout.specs.Rows.{fault, whole}
 use Rattle.layout.proofs.RowLaws.{filled}
 use Rattle.avl_values.specs.declared.fault.Fault.{Fault}
 use Rattle.frame_layout.specs.UpRows.{up_rows, up_verdict}
-use Rattle.frame_layout.specs.Values.{UpValue, frame_value, login}
+use Rattle.frame_layout.specs.Values.{UpValue, frame_value, login, packet, response}
 use Rattle.frame_layout.specs.declared.body_kind.BodyKind.{BodyKind}
 use Rattle.frame_layout.specs.declared.body_kind.BodyKind.TheVariants as kinds
 use Rattle.frame_layout.proofs.Places.{SaysAt, SaysFrame, says_at}
 use Rattle.frame_channel.specs.BodyIn.{body_in}
 use Rattle.frame_channel.specs.UpItems.{frame_item}
 use Rattle.frame_channel.specs.UpMachines.{HasTaken}
-use Rattle.frame_channel.specs.UpPushes.{PushedByte, UpState}
+use Rattle.item_streams.specs.Readers.{Reader}
+use Rattle.frame_channel.specs.UpPushes.{PushedByteUp}
 use Rattle.frame_channel.specs.declared.up_item.UpItem.TheVariants.{More, Login, Broken}
 use Rattle.frame_channel.specs.declared.up_machine.UpMachine.{UpMachine}
 use Rattle.frame_channel.proofs.UpSteps.{has_few, has_short}
@@ -38,10 +39,6 @@ no_login : (kind : BodyKind) (imei : ℕ) (body : List ℕ) → login imei ≡ f
 no_login (kinds.Packet head) imei body e = absurd (cc)
 no_login kinds.Command imei body e = absurd (cc)
 
-login_place : (after_login : Bool) (imei : ℕ) (bytes : List ℕ) → SaysAt after_login (login imei) bytes → after_login ≡ false
-login_place false imei bytes s = refl
-login_place true imei bytes s = absurd (no_login s.kind imei s.body s.value)
-
 frame_place : (after_login : Bool) (kind : BodyKind) (body bytes : List ℕ) → SaysAt after_login (frame_value kind body) bytes → (after_login ≡ true) × SaysFrame (frame_value kind body) bytes
 frame_place false kind body bytes s = absurd (no_login kind s.imei body (sym s.value))
 frame_place true kind body bytes s = (refl, s)
@@ -65,24 +62,19 @@ frame_verdict_says after_login kind bytes (body, e) =
 
 -- a reader's fields as contracts see them
 
-abbrev pub seen : List ℕ → List ℕ → ℕ → ℕ → Bool → Bool → UpState
-seen buffer last len body_len after_login failed = record { have = take len buffer; after_login = after_login; failed = failed; body = take body_len (drop 8 last) }
+abbrev pub seen : List ℕ → List ℕ → ℕ → ℕ → Bool → Bool → Reader
+seen buffer last len body_len after_login failed = record { have = take len buffer; after_first = after_login; failed = failed; body = take body_len (drop 8 last) }
 
 pub on_byte : (buffer last : List ℕ) (len body_len b : ℕ) (after_login failed : Bool) (m : UpMachine) → len < length buffer → HasTaken m after_login (take len buffer ++ b ∷ [])
-    → PushedByte (seen buffer last len body_len after_login failed) (seen (set buffer len b) last (len + 1) body_len after_login failed) b More
+    → PushedByteUp (seen buffer last len body_len after_login failed) (seen (set buffer len b) last (len + 1) body_len after_login failed) b More
 on_byte buffer last len body_len b after_login failed m room taking = record {
   verdict = has_short m after_login (take len buffer ++ b ∷ []) taking;
-  at_place = tt;
-  state = ap (λ (have : List ℕ). let s : UpState = record { have = have; after_login = after_login; failed = failed; body = take body_len (drop 8 last) } in s) (written buffer len b room);
+  state = ap (λ (have : List ℕ). let s : Reader = record { have = have; after_first = after_login; failed = failed; body = take body_len (drop 8 last) } in s) (written buffer len b room);
 }
 
 pub login_byte : (buffer last : List ℕ) (len body_len b imei : ℕ) (after_login failed : Bool) → up_verdict after_login (take len buffer ++ b ∷ []) ≡ whole (login imei) (length (take len buffer ++ b ∷ []))
-    → PushedByte (seen buffer last len body_len after_login failed) (seen (set buffer len b) last 0 body_len true failed) b (Login imei)
-login_byte buffer last len body_len b imei after_login failed e = record {
-  verdict = e;
-  at_place = login_place after_login imei (take len buffer ++ b ∷ []) (whole_says after_login (login imei) (take len buffer ++ b ∷ []) e);
-  state = refl;
-}
+    → PushedByteUp (seen buffer last len body_len after_login failed) (seen (set buffer len b) last 0 body_len true failed) b (Login imei)
+login_byte buffer last len body_len b imei after_login failed e = record { verdict = e; state = refl }
 
 -- the body's place in a buffer is that in the frame
 body_stands : (buffer : List ℕ) (len b : ℕ) → len < length buffer → 12 ≤ len + 1 → take (len + 1 - 12) (drop 8 (set buffer len b)) ≡ body_in (take len buffer ++ b ∷ [])
@@ -95,26 +87,35 @@ body_stands buffer len b room some =
     let front : drop 8 (take n all) ≡ take (n - 8) (drop 8 all) = ap (λ k. drop 8 (take k all)) (sym eight) ∙ drop-take 8 (n - 8) all in
     sym (ap body_in (sym (written buffer len b room)) ∙ ap (λ k. take (k - 12) (drop 8 (take n all))) size ∙ ap (take (n - 12)) front ∙ take-take (n - 12) (n - 8) (drop 8 all) (omega arith))
 
+-- the reader after a frame of this body
+abbrev pub with_body : Reader → List ℕ → Reader
+with_body old body = record old { have = []; after_first = true; body = body }
+
 -- the item that a whole frame is
-by_kind : (old new : UpState) (b : ℕ) (kind : BodyKind) → (old.after_login ≡ true) → up_verdict old.after_login (old.have ++ b ∷ []) ≡ whole (frame_value kind (body_in (old.have ++ b ∷ []))) (length (old.have ++ b ∷ []))
-    → new ≡ record old { have = []; after_login = true; body = body_in (old.have ++ b ∷ []) } → PushedByte old new b (frame_item kind)
-by_kind old new b (kinds.Packet head) place e state = record { verdict = e; at_place = place; state = state }
-by_kind old new b kinds.Command place e state = record { verdict = e; at_place = place; state = state }
+by_kind : (old new : Reader) (b : ℕ) (kind : BodyKind) → up_verdict old.after_first (old.have ++ b ∷ []) ≡ whole (frame_value kind (body_in (old.have ++ b ∷ []))) (length (old.have ++ b ∷ []))
+    → new ≡ with_body old (body_in (old.have ++ b ∷ [])) → PushedByteUp old new b (frame_item kind)
+by_kind old new b (kinds.Packet head) e state =
+    let bytes = old.have ++ b ∷ [] in
+    let body : body_in bytes ≡ new.body = sym (ap (λ (s : Reader). s.body) state) in
+    record { verdict = e ∙ ap (λ x. whole (packet head x) (length bytes)) body; state = state ∙ ap (with_body old) body }
+by_kind old new b kinds.Command e state =
+    let bytes = old.have ++ b ∷ [] in
+    let body : body_in bytes ≡ new.body = sym (ap (λ (s : Reader). s.body) state) in
+    record { verdict = e ∙ ap (λ x. whole (response x) (length bytes)) body; state = state ∙ ap (with_body old) body }
 
 pub frame_byte : (buffer last : List ℕ) (len body_len b : ℕ) (after_login failed : Bool) (kind : BodyKind) → len < length buffer
     → (body : List ℕ) × (up_verdict after_login (take len buffer ++ b ∷ []) ≡ whole (frame_value kind body) (length (take len buffer ++ b ∷ [])))
     → 12 ≤ len + 1
-    → PushedByte (seen buffer last len body_len after_login failed) (seen last (set buffer len b) 0 (len + 1 - 12) true failed) b (frame_item kind)
+    → PushedByteUp (seen buffer last len body_len after_login failed) (seen last (set buffer len b) 0 (len + 1 - 12) true failed) b (frame_item kind)
 frame_byte buffer last len body_len b after_login failed kind room e some =
     let p = frame_verdict_says after_login kind (take len buffer ++ b ∷ []) e in
-    by_kind (seen buffer last len body_len after_login failed) (seen last (set buffer len b) 0 (len + 1 - 12) true failed) b kind p.0 p.2
-    (ap (λ (body : List ℕ). let s : UpState = record { have = []; after_login = true; failed = failed; body = body } in s) (body_stands buffer len b room some))
+    by_kind (seen buffer last len body_len after_login failed) (seen last (set buffer len b) 0 (len + 1 - 12) true failed) b kind p.2
+    (ap (with_body (seen buffer last len body_len after_login failed)) (body_stands buffer len b room some))
 
 pub broken_byte : (buffer last : List ℕ) (len body_len b : ℕ) (after_login failed : Bool) (found : Fault) → len < length buffer
     → up_verdict after_login (take len buffer ++ b ∷ []) ≡ fault found.kind found.place
-    → PushedByte (seen buffer last len body_len after_login failed) (seen (set buffer len b) last (len + 1) body_len after_login true) b (Broken found)
+    → PushedByteUp (seen buffer last len body_len after_login failed) (seen (set buffer len b) last (len + 1) body_len after_login true) b (Broken found)
 broken_byte buffer last len body_len b after_login failed found room e = record {
   verdict = e;
-  at_place = tt;
-  state = ap (λ (have : List ℕ). let s : UpState = record { have = have; after_login = after_login; failed = true; body = take body_len (drop 8 last) } in s) (written buffer len b room);
+  state = ap (λ (have : List ℕ). let s : Reader = record { have = have; after_first = after_login; failed = true; body = take body_len (drop 8 last) } in s) (written buffer len b room);
 }

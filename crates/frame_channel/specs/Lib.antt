@@ -5,14 +5,11 @@ pub mod DataFrames
 pub mod DownBuffers
 pub mod DownMachines
 pub mod DownPushes
-pub mod DownReadings
 pub mod Fields
 pub mod FrameCursors
 pub mod FrameMachines
-pub mod LentBodies
 pub mod LoginMachines
 pub mod UpBuffers
 pub mod UpItems
 pub mod UpMachines
 pub mod UpPushes
-pub mod UpReadings

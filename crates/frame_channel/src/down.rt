@@ -1,11 +1,14 @@
 //! A stream down, in any pieces.
-ghost use Rattle.std.specs.Prelude.{◌≡◌, ◌+◌, ◌<◌, ◌≤◌, [], false, length};
+ghost use Rattle.std.specs.Prelude.{◌≡◌, ◌+◌, ◌<◌, ◌≤◌, [], false, true, length};
+ghost use Rattle.layout.specs.Bytes.{AreBytes};
 ghost use Rattle.layout.specs.Rows.{short};
 ghost use Rattle.frame_layout.specs.DownRows.{down_verdict};
-ghost use Rattle.frame_channel.specs.DownPushes.{Pushed, PushedByte, before_answer, before_counts};
+ghost use Rattle.item_streams.specs.Readers.{fresh};
+ghost use Rattle.frame_channel.specs.DownPushes.{IsLentDown, PushedByteDown, PushedDown};
 
 use crate::down_item::DownItem;
 use crate::down_machine::{DownMachine, DownStep};
+use crate::known_bytes::known_bytes;
 use arrayvec::ArrayVec;
 use std::marker::{Brand, Model};
 use std::mem::swap;
@@ -26,12 +29,12 @@ pub struct Down {
 
 impl Model for Down {
     ghost use Rattle.frame_channel.specs.BodyIn.{body_in};
-    ghost use Rattle.frame_channel.specs.DownPushes.{DownState};
+    ghost use Rattle.item_streams.specs.Readers.{Reader};
     ghost use Rattle.frame_channel.specs.DownBuffers.{IsDown};
 
-    ghost Value = { DownState };
+    ghost Value = { Reader };
 
-    ghost view = { λ d. record { have = d.buffer.items; after_answer = d.after_answer; failed = d.failed; body = body_in d.last.items } };
+    ghost view = { λ d. record { have = d.buffer.items; after_first = d.after_answer; failed = d.failed; body = body_in d.last.items } };
 
     ghost invariant = { λ d. IsDown d.buffer.items d.after_answer d.failed d.machine };
 }
@@ -39,7 +42,7 @@ impl Model for Down {
 impl Down {
     /// A reader before the login's answer.
     pub fn new() -> Down
-        ensures { result ≡ before_answer }
+        ensures { result ≡ fresh false }
     {
         Down {
             buffer: ArrayVec::new(),
@@ -50,9 +53,9 @@ impl Down {
         }
     }
 
-    /// A reader behind the login's answer.
+    /// A reader after the login's answer.
     pub fn answers() -> Down
-        ensures { result ≡ before_counts }
+        ensures { result ≡ fresh true }
     {
         Down {
             buffer: ArrayVec::new(),
@@ -65,7 +68,7 @@ impl Down {
 
     /// Begins anew before the login's answer, also where it has answered Broken. The body is empty then.
     pub fn begin_login(&mut self)
-        ensures { self.new ≡ before_answer }
+        ensures { self.new ≡ fresh false }
     {
         self.buffer.clear();
         self.last.clear();
@@ -74,9 +77,9 @@ impl Down {
         self.failed = false;
     }
 
-    /// Begins anew behind the login's answer, as `begin_login` does before it.
+    /// Begins anew after the login's answer, as `begin_login` does before it.
     pub fn begin_answers(&mut self)
-        ensures { self.new ≡ before_counts }
+        ensures { self.new ≡ fresh true }
     {
         self.buffer.clear();
         self.last.clear();
@@ -89,7 +92,8 @@ impl Down {
     /// answered Broken. The decision falls on the same byte however the stream is cut.
     pub fn push(&mut self, piece: &[u8]) -> (usize, DownItem)
         requires { self.old.failed ≡ false }
-        ensures { Pushed self.old self.new piece.now result.0 result.1 }
+        ensures pushed { PushedDown self.old self.new piece.now result.0 result.1 }
+        ensures lent { IsLentDown result.1 self.new.body }
     {
         self.push_from::<Brand>(piece, Blank::new(1))
     }
@@ -100,7 +104,8 @@ impl Down {
         requires parts { blank.parts ≡ L.parts }
         requires some { 0 < blank.parts }
         requires going { self.old.failed ≡ false }
-        ensures { Pushed self.old self.new piece.now result.0 result.1 }
+        ensures pushed { PushedDown self.old self.new piece.now result.0 result.1 }
+        ensures lent { IsLentDown result.1 self.new.body }
     {
         let mut steps = Steps::<L>::new(blank);
         self.push_counted(piece, &mut steps)
@@ -113,10 +118,11 @@ impl Down {
         steps: &mut Steps<L>,
     ) -> (usize, DownItem)
         requires { self.old.failed ≡ false }
-        ensures pushed { Pushed self.old self.new piece.now result.0 result.1 }
+        ensures pushed { PushedDown self.old self.new piece.now result.0 result.1 }
+        ensures lent { IsLentDown result.1 self.new.body }
         ensures steps { steps.new ≡ steps.old + result.0 }
     {
-        self.is_unfinished();
+        let _ = self.held();
         for (i, byte) in piece.iter().enumerate() {
             match self.take(*byte, steps) {
                 DownItem::More => {}
@@ -126,17 +132,21 @@ impl Down {
         (piece.len(), DownItem::More)
     }
 
-    // The bytes that it has are less than an item.
-    fn is_unfinished(&self)
-        ensures { self.now.failed ≡ false → down_verdict self.now.after_answer self.now.have ≡ short }
+    // The bytes that it has of its unfinished item.
+    fn held(&self) -> &[u8]
+        ensures is { result.now ≡ self.now.have }
+        ensures unfinished { self.now.failed ≡ false → down_verdict self.now.after_first self.now.have ≡ short }
+        ensures few { self.now.failed ≡ false → length self.now.have < 1280 }
+        ensures fits { length result.now ≤ 1280 }
+        ensures bytes { AreBytes self.now.have }
     {
-        let _ = &self.machine;
+        known_bytes(self.buffer.as_slice())
     }
 
     // Takes one byte.
     fn take<L: Ledger>(&mut self, byte: u8, steps: &mut Steps<L>) -> DownItem
         requires { self.old.failed ≡ false }
-        ensures pushed { PushedByte self.old self.new byte result }
+        ensures pushed { PushedByteDown self.old self.new byte result }
         ensures step { steps.new ≡ steps.old + 1 }
     {
         self.buffer.push(byte);
@@ -179,12 +189,15 @@ impl Down {
         &frame[8..frame.len() - 4]
     }
 
-    /// How many bytes it has of its unfinished item.
+    /// How many bytes it has of its unfinished item. Unless it has answered Broken they are fewer than 1,280, and no verdict on
+    /// them has come.
     pub fn have(&self) -> u32
         ensures is { result ≡ length self.now.have }
+        ensures unfinished { self.now.failed ≡ false → down_verdict self.now.after_first self.now.have ≡ short }
+        ensures bytes { AreBytes self.now.have }
         ensures few { self.now.failed ≡ false → result < 1280 }
     {
-        self.buffer.len() as u32
+        self.held().len() as u32
     }
 
     /// Whether it has answered Broken.

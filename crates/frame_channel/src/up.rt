@@ -1,11 +1,14 @@
 //! A stream up, in any pieces.
 ghost use Rattle.std.specs.Prelude.{◌≡◌, ◌+◌, ◌<◌, ◌≤◌, ℕ, List, [], false, true, drop, length, take, IfOk, IfSome};
+ghost use Rattle.layout.specs.Bytes.{AreBytes};
 ghost use Rattle.layout.specs.Rows.{short};
 ghost use Rattle.frame_layout.specs.UpRows.{up_verdict};
+ghost use Rattle.item_streams.specs.Readers.{fresh};
 ghost use Rattle.frame_channel.specs.DataFrames.{BeginsWith, IsNext};
-ghost use Rattle.frame_channel.specs.UpPushes.{Pushed, PushedByte, before_frames, before_login};
+ghost use Rattle.frame_channel.specs.UpPushes.{IsLentUp, PushedByteUp, PushedUp};
 
 use crate::data_frame::{DataFrame, data_frame};
+use crate::known_bytes::known_bytes;
 use crate::up_item::{UpItem, of_frame};
 use crate::up_machine::{UpMachine, UpStep};
 use avl_values::NoMemory;
@@ -50,12 +53,12 @@ pub struct Up {
 
 impl Model for Up {
     ghost use Rattle.std.specs.Prelude.{drop, take};
-    ghost use Rattle.frame_channel.specs.UpPushes.{UpState};
+    ghost use Rattle.item_streams.specs.Readers.{Reader};
     ghost use Rattle.frame_channel.specs.UpBuffers.{IsUp};
 
-    ghost Value = { UpState };
+    ghost Value = { Reader };
 
-    ghost view = { λ u. record { have = take u.len u.buffer.items; after_login = u.after_login; failed = u.failed; body = take u.body_len (drop 8 u.last.items) } };
+    ghost view = { λ u. record { have = take u.len u.buffer.items; after_first = u.after_login; failed = u.failed; body = take u.body_len (drop 8 u.last.items) } };
 
     ghost invariant = { λ u. IsUp u.buffer.items u.last.items u.len u.body_len u.after_login u.failed u.machine };
 }
@@ -63,7 +66,7 @@ impl Model for Up {
 impl Up {
     /// A reader before the login. NoMemory where its two buffers aren't given; nothing is made then.
     pub fn new(alloc: Global) -> Result<Up, NoMemory>
-        ensures { IfOk result (λ up. up ≡ before_login) }
+        ensures { IfOk result (λ up. up ≡ fresh false) }
     {
         Ok(Up {
             buffer: zeros(alloc, LONGEST)?,
@@ -76,9 +79,9 @@ impl Up {
         })
     }
 
-    /// A reader behind a login. NoMemory where its two buffers aren't given; nothing is made then.
+    /// A reader after a login. NoMemory where its two buffers aren't given; nothing is made then.
     pub fn frames(alloc: Global) -> Result<Up, NoMemory>
-        ensures { IfOk result (λ up. up ≡ before_frames) }
+        ensures { IfOk result (λ up. up ≡ fresh true) }
     {
         Ok(Up {
             buffer: zeros(alloc, LONGEST)?,
@@ -93,7 +96,7 @@ impl Up {
 
     /// Begins anew before a login, in the memory that it has, also where it has answered Broken. The body is empty then.
     pub fn begin_login(&mut self)
-        ensures { self.new ≡ before_login }
+        ensures { self.new ≡ fresh false }
     {
         self.len = 0;
         self.body_len = 0;
@@ -102,9 +105,9 @@ impl Up {
         self.failed = false;
     }
 
-    /// Begins anew behind a login, as `begin_login` does before one.
+    /// Begins anew after a login, as `begin_login` does before one.
     pub fn begin_frames(&mut self)
-        ensures { self.new ≡ before_frames }
+        ensures { self.new ≡ fresh true }
     {
         self.len = 0;
         self.body_len = 0;
@@ -118,7 +121,8 @@ impl Up {
     /// piece's front is judged at once, and all else byte by byte.
     pub fn push(&mut self, piece: &[u8]) -> (usize, UpItem)
         requires { self.old.failed ≡ false }
-        ensures { Pushed self.old self.new piece.now result.0 result.1 }
+        ensures pushed { PushedUp self.old self.new piece.now result.0 result.1 }
+        ensures lent { IsLentUp result.1 self.new.body }
     {
         match self.next_frame(piece) {
             Some(frame) => self.take_frame(frame.head, frame.body),
@@ -140,7 +144,8 @@ impl Up {
     // Takes the data frame that is the next item.
     fn take_frame(&mut self, head: PacketHead, body: &[u8]) -> (usize, UpItem)
         requires { length body.now ≤ 65535 }
-        ensures { (piece : List ℕ) → IsNext self.old head body.now piece → Pushed self.old self.new piece result.0 result.1 }
+        ensures pushed { (piece : List ℕ) → IsNext self.old head body.now piece → PushedUp self.old self.new piece result.0 result.1 }
+        ensures lent { (piece : List ℕ) → IsNext self.old head body.now piece → IsLentUp result.1 self.new.body }
     {
         put_body(&mut self.last, body);
         self.body_len = body.len();
@@ -153,7 +158,8 @@ impl Up {
         requires parts { blank.parts ≡ L.parts }
         requires some { 0 < blank.parts }
         requires going { self.old.failed ≡ false }
-        ensures { Pushed self.old self.new piece.now result.0 result.1 }
+        ensures pushed { PushedUp self.old self.new piece.now result.0 result.1 }
+        ensures lent { IsLentUp result.1 self.new.body }
     {
         let mut steps = Steps::<L>::new(blank);
         self.push_counted(piece, &mut steps)
@@ -162,10 +168,11 @@ impl Up {
     /// As `push`, with exactly one step a byte taken.
     pub fn push_counted<L: Ledger>(&mut self, piece: &[u8], steps: &mut Steps<L>) -> (usize, UpItem)
         requires { self.old.failed ≡ false }
-        ensures pushed { Pushed self.old self.new piece.now result.0 result.1 }
+        ensures pushed { PushedUp self.old self.new piece.now result.0 result.1 }
+        ensures lent { IsLentUp result.1 self.new.body }
         ensures steps { steps.new ≡ steps.old + result.0 }
     {
-        self.is_unfinished();
+        let _ = self.held();
         for (i, byte) in piece.iter().enumerate() {
             match self.take(*byte, steps) {
                 UpItem::More => {}
@@ -175,17 +182,21 @@ impl Up {
         (piece.len(), UpItem::More)
     }
 
-    // The bytes that it has are less than an item.
-    fn is_unfinished(&self)
-        ensures { self.now.failed ≡ false → up_verdict self.now.after_login self.now.have ≡ short }
+    // The bytes that it has of its unfinished item.
+    fn held(&self) -> &[u8]
+        ensures is { result.now ≡ self.now.have }
+        ensures unfinished { self.now.failed ≡ false → up_verdict self.now.after_first self.now.have ≡ short }
+        ensures few { self.now.failed ≡ false → length self.now.have < 65547 }
+        ensures fits { length result.now ≤ 65547 }
+        ensures bytes { AreBytes self.now.have }
     {
-        let _ = &self.machine;
+        known_bytes(&self.buffer[..self.len])
     }
 
     // Takes one byte.
     fn take<L: Ledger>(&mut self, byte: u8, steps: &mut Steps<L>) -> UpItem
         requires { self.old.failed ≡ false }
-        ensures pushed { PushedByte self.old self.new byte result }
+        ensures pushed { PushedByteUp self.old self.new byte result }
         ensures step { steps.new ≡ steps.old + 1 }
     {
         let len = self.len;
@@ -221,12 +232,15 @@ impl Up {
         &self.last[8..8 + self.body_len]
     }
 
-    /// How many bytes it has of its unfinished item.
+    /// How many bytes it has of its unfinished item. Unless it has answered Broken they are fewer than the longest frame's, and no
+    /// verdict on them has come.
     pub fn have(&self) -> u32
         ensures is { result ≡ length self.now.have }
+        ensures unfinished { self.now.failed ≡ false → up_verdict self.now.after_first self.now.have ≡ short }
+        ensures bytes { AreBytes self.now.have }
         ensures few { self.now.failed ≡ false → result < 65547 }
     {
-        self.len as u32
+        self.held().len() as u32
     }
 
     /// Whether it has answered Broken.

@@ -26,7 +26,8 @@ use Rattle.command_layout.specs.Table.{CommandRow, IsOf, row_of}
 use Rattle.command_layout.specs.Values.{CommandValue}
 use Rattle.command_layout.proofs.CommandFills.{command_fills, command_size, fills_command}
 use Rattle.frame_layout.specs.FrameBodies.{command_body_rows, body_kind_rows}
-use Rattle.frame_layout.specs.Items.{IsBody, IsFrameBody}
+use Rattle.record_layout.specs.Body.{IsBody}
+use Rattle.frame_layout.specs.Items.{IsFrameBody}
 use Rattle.frame_layout.specs.declared.body_kind.BodyKind.{BodyKind}
 use Rattle.frame_layout.specs.declared.body_kind.BodyKind.TheVariants.{Packet, Command}
 

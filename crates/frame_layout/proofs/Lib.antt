@@ -6,6 +6,7 @@ pub mod KindFills
 pub mod KindVerdicts
 pub mod Lengths
 pub mod LoginFills
+pub mod PlaceLaws
 pub mod Places
 pub mod SaidBytes
 pub mod UpLaws

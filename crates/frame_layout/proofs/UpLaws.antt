@@ -1,19 +1,14 @@
 -- The laws of the items up.
 use Rattle.std.proofs.Common.{◌≡◌, ℕ, ◌+◌, Bool, true, false, List, length, take, sym, ap, subst, ◌∙◌, arith}
-use Rattle.std.proofs.Math.Seq.{take-length}
 use Rattle.layout.specs.Bytes.{AreBytes}
 use Rattle.layout.specs.Rows.{whole, Fills}
 use Rattle.layout.proofs.Numbers.{bytes-take}
 use Rattle.layout.proofs.RowLaws.{filled, is_whole, none_begins, stays}
 use Rattle.layout.proofs.MappedLaws.{map_fill, map_take}
-use Rattle.record_layout.specs.Packet.{IsPacket}
-use Rattle.record_layout.specs.PacketRows.{packet_verdict}
-use Rattle.record_layout.specs.declared.head.PacketHead.{PacketHead}
-use Rattle.record_layout.proofs.ReadLaws.{whole_packet}
 use Rattle.command_layout.specs.declared.way.Way.TheVariants.{Up}
 use Rattle.frame_layout.specs.FrameBodies.{body_kind_rows}
 use Rattle.frame_layout.specs.FrameRows.{frame_rows}
-use Rattle.frame_layout.specs.Items.{IsBody, IsFrame, IsUpItem, frame_of}
+use Rattle.frame_layout.specs.Items.{IsFrame, IsUpItem, frame_of}
 use Rattle.frame_layout.specs.Laws.{NoUpItemBeginsAnother, UpItemIsWhole, UpVerdictStays, WholeIsUpItem}
 use Rattle.frame_layout.specs.UpRows.{up_frame_rows, up_rows}
 use Rattle.frame_layout.specs.Values.{UpValue, frame_value, login, packet, response}
@@ -74,9 +69,3 @@ up_stays after_login bytes more come = stays (up_rows after_login) 0 bytes more 
 
 pub none_begins_up : NoUpItemBeginsAnother
 none_begins_up after_login v w a b x y p q same = none_begins (up_rows after_login) v w a b x y (up_fills after_login v a p) (up_fills after_login w b q) same
-
--- bytes that are judged to be a whole body are one
-pub judged_body : (head : PacketHead) (body : List ℕ) → AreBytes body → packet_verdict (length body) body ≡ whole head (length body) → IsBody head body
-judged_body head body p e =
-    let w = whole_packet (length body) (length body) head body p e in
-    record { records = w.0; packet = subst (IsPacket head.codec w.0) (take-length body) w.3; count = w.4 }

@@ -5,8 +5,7 @@ use Rattle.std.specs.Int.{to_be_bytes, w16, w32}
 use Rattle.avl_values.specs.Imei.{imei_text}
 use Rattle.crc_field.specs.Crc.{crc_of}
 use Rattle.layout.specs.Bytes.{AreBytes}
-use Rattle.record_layout.specs.declared.head.PacketHead.{PacketHead}
-use Rattle.record_layout.specs.Packet.{IsPacket}
+use Rattle.record_layout.specs.Body.{IsBody}
 use Rattle.command_layout.specs.declared.way.Way.{Way}
 use Rattle.command_layout.specs.declared.way.Way.TheVariants.{Up, Down}
 use Rattle.command_layout.specs.Spelling.{IsCommand}
@@ -25,14 +24,8 @@ abbrev pub frame_of : List ℕ → List ℕ
 frame_of body = 0 ∷ 0 ∷ 0 ∷ 0 ∷ (to_be_bytes w32 (length body) ++ (body ++ 0 ∷ 0 ∷ to_be_bytes w16 (crc_of body)))
 
 -- a number of records in four bytes
-abbrev pub count_of : ℕ → List ℕ
-count_of n = to_be_bytes w32 n
-
--- these bytes are a data body, and it says this first
-pub record IsBody (head : PacketHead) (body : List ℕ) : Type 0 where
-  pub records : List (List ℕ)
-  pub packet : IsPacket head.codec records body
-  pub count : head.count ≡ length records
+abbrev pub count_bytes : ℕ → List ℕ
+count_bytes n = to_be_bytes w32 n
 
 -- these bytes are a body that may pass this way: a data body up, or a command of that way
 abbrev pub IsFrameBody : Way → BodyKind → List ℕ → Type 0
@@ -58,9 +51,9 @@ pub record IsAnswer (n : ℕ) (bytes : List ℕ) : Type 0 where
   pub is : bytes ≡ n ∷ []
   pub byte : n < 256
 
--- these bytes are a count of so many records, which isn't 0
+-- these bytes are a count of n records, which isn't 0
 pub record IsCount (n : ℕ) (bytes : List ℕ) : Type 0 where
-  pub is : bytes ≡ count_of n
+  pub is : bytes ≡ count_bytes n
   pub some : 0 < n
   pub fits : n < 2 ^ 32
 

@@ -1,9 +1,10 @@
 -- The laws of the items of a connection.
-use Rattle.std.specs.Prelude.{◌≡◌, ℕ, ◌≤◌, Bool, List, ◌++◌, length, take}
+use Rattle.std.specs.Prelude.{◌≡◌, ℕ, ◌<◌, ◌≤◌, Bool, List, [], ◌++◌, length, take}
 use Rattle.layout.specs.Bytes.{AreBytes}
 use Rattle.layout.specs.Rows.{whole, short}
 use Rattle.frame_layout.specs.DownRows.{down_verdict}
 use Rattle.frame_layout.specs.Items.{IsDownItem, IsUpItem}
+use Rattle.frame_layout.specs.Readings.{IsSaidDown, IsSaidUp, comes_later_down, comes_later_up}
 use Rattle.frame_layout.specs.UpRows.{up_verdict}
 use Rattle.frame_layout.specs.Values.{DownValue, UpValue}
 
@@ -38,3 +39,33 @@ DownVerdictStays = (after_answer : Bool) (bytes more : List ℕ) → (down_verdi
 
 abbrev pub NoDownItemBeginsAnother : Type 0
 NoDownItemBeginsAnother = (after_answer : Bool) (v w : DownValue) (a b x y : List ℕ) → IsDownItem after_answer v a → IsDownItem after_answer w b → a ++ x ≡ b ++ y → (a ≡ b) × (v ≡ w)
+
+-- An item stands only at its place.
+
+abbrev pub UpItemHasPlace : Type 0
+UpItemHasPlace = (after_login : Bool) (v : UpValue) (n : ℕ) (bytes : List ℕ) → up_verdict after_login bytes ≡ whole v n → after_login ≡ comes_later_up v
+
+abbrev pub DownItemHasPlace : Type 0
+DownItemHasPlace = (after_answer : Bool) (v : DownValue) (n : ℕ) (bytes : List ℕ) → down_verdict after_answer bytes ≡ whole v n → after_answer ≡ comes_later_down v
+
+-- A stream that begins has no verdict yet, and an item that is unfinished has fewer bytes than the longest one.
+
+abbrev pub UpBegins : Type 0
+UpBegins = (after_login : Bool) → up_verdict after_login [] ≡ short
+
+abbrev pub DownBegins : Type 0
+DownBegins = (after_answer : Bool) → down_verdict after_answer [] ≡ short
+
+abbrev pub ShortUpIsFew : Type 0
+ShortUpIsFew = (after_login : Bool) (bytes : List ℕ) → up_verdict after_login bytes ≡ short → length bytes < 65547
+
+abbrev pub ShortDownIsFew : Type 0
+ShortDownIsFew = (after_answer : Bool) (bytes : List ℕ) → down_verdict after_answer bytes ≡ short → length bytes < 1280
+
+-- What a whole verdict says is within its bounds.
+
+abbrev pub UpItemIsSaid : Type 0
+UpItemIsSaid = (after_login : Bool) (v : UpValue) (n : ℕ) (bytes : List ℕ) → AreBytes bytes → up_verdict after_login bytes ≡ whole v n → IsSaidUp v
+
+abbrev pub DownItemIsSaid : Type 0
+DownItemIsSaid = (after_answer : Bool) (v : DownValue) (n : ℕ) (bytes : List ℕ) → AreBytes bytes → down_verdict after_answer bytes ≡ whole v n → IsSaidDown v

@@ -4,5 +4,6 @@ pub mod FrameRows
 pub mod Items
 pub mod Laws
 pub mod Logins
+pub mod Readings
 pub mod UpRows
 pub mod Values

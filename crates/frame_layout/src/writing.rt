@@ -4,7 +4,8 @@ ghost use Rattle.command_layout.specs.declared.way.Way.{Way};
 ghost use Rattle.command_layout.specs.declared.way.Way.TheVariants.{Up, Down};
 ghost use Rattle.command_layout.specs.Spelling.{IsCommand};
 ghost use Rattle.command_layout.specs.Values.{CommandValue};
-ghost use Rattle.frame_layout.specs.Items.{IsBody, IsCount, IsDownItem, IsFrameBody, IsLogin, IsUpItem, frame_of};
+ghost use Rattle.record_layout.specs.Body.{IsBody};
+ghost use Rattle.frame_layout.specs.Items.{IsCount, IsDownItem, IsFrameBody, IsLogin, IsUpItem, frame_of};
 ghost use Rattle.frame_layout.specs.Values.{order, packet, response};
 ghost use Rattle.frame_layout.specs.declared.body_kind.BodyKind.{BodyKind};
 

@@ -7,7 +7,7 @@ use Rattle.std.proofs.lemmas.List.Elements.{filter-append}
 use Rattle.std.specs.Prelude.{nat_le}
 use Rattle.layout.specs.Rows.{Rows, short, judge, Fills}
 use Rattle.layout.proofs.RowLaws.{is_whole}
-use Rattle.item_streams.specs.Streams.{Item, Reading, rows_behind, place_behind, AreItems, IsNotWhole, reading_of, ended_by}
+use Rattle.item_streams.specs.Streams.{Item, Reading, next_rows, place_after, AreItems, IsNotWhole, reading_of, ended_by}
 use Rattle.item_streams.specs.Laws.{PrefixItemsEndInside}
 use Rattle.item_streams.proofs.Joining.{not_empty, not_whole}
 use Rattle.item_streams.proofs.StreamLaws.{has_reading, compose, rows_begin, add_up}
@@ -26,7 +26,7 @@ inside {V = V} first later place limit (item ∷ items) rest bytes (front, more,
     kept limit item items (omega (arith, ap length is, len, at))
     ∙ ap (λ (xs : List (Item V)). item ∷ xs) (inside later later item.end limit items rest more others (omega (arith, ap length is, len, at)))
 
--- items whose first byte stands at the limit or behind it
+-- items whose first byte stands at the limit or after it
 beyond : {V : Type 0} (first later : Rows V) (place limit : ℕ) (items : List (Item V)) (rest bytes : List ℕ) → judge first 0 [] ≡ short → judge later 0 [] ≡ short
     → AreItems first later place items rest bytes → limit ≤ place → ended_by limit items ≡ []
 beyond first later place limit [] rest bytes begins laters is le = refl
@@ -48,26 +48,26 @@ by_length rows v front m rest more fills same unended (inr le) =
     absurd (not_whole (judge rows 0 rest) v (0 + length front) unended
     (ap (λ (b : List ℕ). judge rows 0 b) (split_at front m rest more same le) ∙ is_whole rows 0 v front (drop (length front) rest) fills))
 
--- the items behind bytes that are no whole item, and more
-behind_rest : {V : Type 0} (first later : Rows V) (place : ℕ) (items : List (Item V)) (end rest more : List ℕ) → judge later 0 [] ≡ short → IsNotWhole (judge first 0 rest)
+-- the items after bytes that are no whole item, and more
+after_rest : {V : Type 0} (first later : Rows V) (place : ℕ) (items : List (Item V)) (end rest more : List ℕ) → judge later 0 [] ≡ short → IsNotWhole (judge first 0 rest)
     → AreItems first later place items end (rest ++ more) → ended_by (place + length rest) items ≡ []
-behind_rest first later place [] end rest more laters unended is = refl
-behind_rest first later place (item ∷ items) end rest more laters unended (front, tail, is, fills, at, others) =
+after_rest first later place [] end rest more laters unended is = refl
+after_rest first later place (item ∷ items) end rest more laters unended (front, tail, is, fills, at, others) =
     let longer : length rest < length front = by_length first item.value front tail rest more fills (sym is) unended (cases_lt (length rest) (length front)) in
     passed (place + length rest) item items (omega (arith, longer, at)) ∙ beyond later later item.end (place + length rest) items end tail laters laters others (omega (arith, longer, at))
 
 pub ends_inside : {V : Type 0} → PrefixItemsEndInside V
 ends_inside {V = V} first later place bytes more rows =
     let before : Reading V = reading_of first later place bytes in
-    let behind : Rows V = rows_behind first later before.items in
-    let q = place_behind place before.items in
-    let after : Reading V = reading_of behind later q (before.rest ++ more) in
+    let next : Rows V = next_rows first later before.items in
+    let q = place_after place before.items in
+    let after : Reading V = reading_of next later q (before.rest ++ more) in
     let limit = place + length bytes in
     let is = has_reading first later place bytes rows in
-    let goes_on = has_reading behind later q (before.rest ++ more) (rows_begin first later before.items rows) in
+    let goes_on = has_reading next later q (before.rest ++ more) (rows_begin first later before.items rows) in
     let front : ended_by limit before.items ≡ before.items = inside first later place limit before.items before.rest bytes is.joined (omega arith) in
     let none : ended_by limit after.items ≡ [] = subst (λ (n : ℕ). ended_by n after.items ≡ []) (add_up first later place bytes rows)
-    (behind_rest behind later q after.items after.rest before.rest more rows.later_begins is.unfinished goes_on.joined) in
+    (after_rest next later q after.items after.rest before.rest more rows.later_begins is.unfinished goes_on.joined) in
     sym (
     ap (λ (r : Reading V). ended_by limit r.items) (compose first later place bytes more rows)
     ∙ filter-append (λ (item : Item V). nat_le item.end limit) before.items after.items

@@ -1,5 +1,7 @@
 pub mod Ending
 pub mod Joining
+pub mod ReaderSteps
 pub mod Reading
 pub mod StreamLaws
+pub mod StreamSteps
 pub mod Worked

@@ -4,13 +4,13 @@ use Rattle.std.proofs.Math.Seq.{drop-append_seam}
 use Rattle.std.proofs.lemmas.List.{take-append-drop, length-drop, length-take-le}
 use Rattle.layout.specs.Rows.{Rows, Verdict, whole, short, fault, judge, Fills}
 use Rattle.layout.proofs.RowLaws.{filled, is_whole}
-use Rattle.item_streams.specs.Streams.{Item, Reading, rows_behind, AreItems, IsNotWhole, IsReading, only_rest, with_front, behind_front, read_items}
-use Rattle.item_streams.proofs.Joining.{not_empty, later_behind}
+use Rattle.item_streams.specs.Streams.{Item, Reading, next_rows, AreItems, IsNotWhole, IsReading, only_rest, with_front, after_front, read_items}
+use Rattle.item_streams.proofs.Joining.{not_empty, later_stays}
 
 -- One step of the reading.
 
 read_step : {V : Type 0} (most : ℕ) (first later : Rows V) (place : ℕ) (bytes : List ℕ) → read_items (suc most) first later place bytes
-    ≡ behind_front (judge first 0 bytes) bytes (λ v n. with_front (record { value = v; end = place + n }) (read_items most later later (place + n) (drop n bytes)))
+    ≡ after_front (judge first 0 bytes) bytes (λ v n. with_front (record { value = v; end = place + n }) (read_items most later later (place + n) (drop n bytes)))
 unfolding read_items
 read_step most first later place bytes = refl
 
@@ -18,12 +18,12 @@ read_none : {V : Type 0} (first later : Rows V) (place : ℕ) (bytes : List ℕ)
 unfolding read_items
 read_none first later place bytes = refl
 
--- What behind_front is, by the verdict.
+-- What after_front is, by the verdict.
 
-front_rest : {V : Type 0} (verdict : Verdict V) (bytes : List ℕ) (behind : V → ℕ → Reading V) → IsNotWhole verdict → behind_front verdict bytes behind ≡ only_rest bytes
-front_rest (whole v n) bytes behind unended = absurd unended
-front_rest short bytes behind unended = refl
-front_rest (fault kind place) bytes behind unended = refl
+front_rest : {V : Type 0} (verdict : Verdict V) (bytes : List ℕ) (next : V → ℕ → Reading V) → IsNotWhole verdict → after_front verdict bytes next ≡ only_rest bytes
+front_rest (whole v n) bytes next unended = absurd unended
+front_rest short bytes next unended = refl
+front_rest (fault kind place) bytes next unended = refl
 
 pub read_rest : {V : Type 0} (most : ℕ) (first later : Rows V) (place : ℕ) (bytes : List ℕ) → IsNotWhole (judge first 0 bytes) → read_items most first later place bytes ≡ only_rest bytes
 read_rest zero first later place bytes unended = read_none first later place bytes
@@ -33,7 +33,7 @@ pub read_front : {V : Type 0} (most : ℕ) (first later : Rows V) (place n : ℕ
     → read_items (suc most) first later place bytes ≡ with_front (record { value = v; end = place + n }) (read_items most later later (place + n) (drop n bytes))
 read_front {V = V} most first later place n v bytes is =
     let go : V → ℕ → Reading V = λ w m. with_front (record { value = w; end = place + m }) (read_items most later later (place + m) (drop m bytes)) in
-    read_step most first later place bytes ∙ ap (λ (u : Verdict V). behind_front u bytes go) is
+    read_step most first later place bytes ∙ ap (λ (u : Verdict V). after_front u bytes go) is
 
 -- It is a reading, by the verdict on the front.
 
@@ -44,7 +44,7 @@ pub front_is : {V : Type 0} (first later : Rows V) (place : ℕ) (v : V) (front 
     → IsReading first later place (front ++ more) (with_front (record { value = v; end = place + length front }) r)
 front_is {V = V} first later place v front more r fills is = record {
   joined = (front, more, refl, fills, refl, is.joined);
-  unfinished = subst (λ (rows : Rows V). IsNotWhole (judge rows 0 r.rest)) (later_behind later r.items) is.unfinished;
+  unfinished = subst (λ (rows : Rows V). IsNotWhole (judge rows 0 r.rest)) (later_stays later r.items) is.unfinished;
 }
 
 pub front_is_at : {V : Type 0} (first later : Rows V) (place n : ℕ) (v : V) (bytes : List ℕ) (r : Reading V) → n ≤ length bytes → Fills first v (take n bytes)
@@ -87,7 +87,7 @@ reads {V = V} (suc most) first later place bytes begins laters le =
 -- And the only one.
 
 pub only : {V : Type 0} (most : ℕ) (first later : Rows V) (place : ℕ) (items : List (Item V)) (rest bytes : List ℕ) → judge first 0 [] ≡ short → judge later 0 [] ≡ short → length bytes ≤ most
-    → AreItems first later place items rest bytes → IsNotWhole (judge (rows_behind first later items) 0 rest) → read_items most first later place bytes ≡ record { items = items; rest = rest }
+    → AreItems first later place items rest bytes → IsNotWhole (judge (next_rows first later items) 0 rest) → read_items most first later place bytes ≡ record { items = items; rest = rest }
 only {V = V} most first later place [] rest bytes begins laters le is unended =
     read_rest most first later place bytes (subst (λ (b : List ℕ). IsNotWhole (judge first 0 b)) (sym is) unended) ∙ ap (λ (b : List ℕ). only_rest b) is
 only zero first later place (item ∷ items) rest bytes begins laters le (front, more, is, fills, at, others) unended =
@@ -97,7 +97,7 @@ only {V = V} (suc most) first later place (item ∷ items) rest bytes begins lat
     let whole_front : judge first 0 bytes ≡ whole item.value (length front) = ap (λ (b : List ℕ). judge first 0 b) is ∙ is_whole first 0 item.value front more fills ∙ ap (λ (k : ℕ). whole item.value k) plus in
     let tail : drop (length front) bytes ≡ more = ap (λ (b : List ℕ). drop (length front) b) is ∙ drop-append_seam front more in
     let few : length more ≤ most = omega (arith, not_empty first item.value front begins fills, ap length is, length-append front more) in
-    let end_open : IsNotWhole (judge (rows_behind later later items) 0 rest) = subst (λ (rows : Rows V). IsNotWhole (judge rows 0 rest)) (sym (later_behind later items)) unended in
+    let end_open : IsNotWhole (judge (next_rows later later items) 0 rest) = subst (λ (rows : Rows V). IsNotWhole (judge rows 0 rest)) (sym (later_stays later items)) unended in
     let there = only most later later item.end items rest more laters laters few others end_open in
     read_front most first later place (length front) item.value bytes whole_front
     ∙ ap (λ (b : List ℕ). with_front (record { value = item.value; end = place + length front }) (read_items most later later (place + length front) b)) tail

@@ -23,7 +23,7 @@ one_byte_is_left : reading_of greeting small_number 0 (7 ∷ 0 ∷ 1 ∷ 2 ∷ [
 unfolding read_items judge
 one_byte_is_left = refl
 
--- 65535 is refused, and 5 behind it is not read
+-- 65535 is refused, and 5 after it is not read
 fault_ends_it : reading_of greeting small_number 0 (7 ∷ 1 ∷ 44 ∷ 255 ∷ 255 ∷ 0 ∷ 5 ∷ []) ≡ record { items = at 7 1 ∷ at 300 3 ∷ []; rest = 255 ∷ 255 ∷ 0 ∷ 5 ∷ [] }
 unfolding read_items judge
 fault_ends_it = refl

@@ -1,6 +1,7 @@
 //! The laws, each as the contract of a function that does nothing. They hold for all rows that are short of bytes where
 //! there are none.
 ghost use Rattle.item_streams.specs.Laws.{EachHasReading, OneReading, StreamsCompose, PrefixHasPrefix, PrefixItemsEndInside, RestIsNotWhole, RestGrows, RestCompletes, NoneIsEmpty, FaultEndsStream, FrontIsRead, NothingIsRead, ItemAloneIsRead, PlacesAddUp, PlaceSaysNothing};
+ghost use Rattle.item_streams.specs.Readers.{PushesRead, ReadsOn, ReadsAll, ReadsBroken};
 
 /// Every list of bytes has a reading.
 pub fn each_has_reading<V>()
@@ -47,12 +48,12 @@ pub fn rest_completes<V>()
     ensures { RestCompletes V }
 {}
 
-/// Behind a fault nothing more is read, however the bytes go on.
+/// After a fault nothing more is read, however the bytes go on.
 pub fn fault_ends_stream<V>()
     ensures { FaultEndsStream V }
 {}
 
-/// Where an item stands whole at the front, it is read, and then the bytes behind it.
+/// Where an item stands whole at the front, it is read, and then the bytes after it.
 pub fn front_is_read<V>()
     ensures { FrontIsRead V }
 {}
@@ -67,7 +68,7 @@ pub fn item_alone_is_read<V>()
     ensures { ItemAloneIsRead V }
 {}
 
-/// The place behind the items and the bytes of the rest add up to the place behind all bytes.
+/// The place after the items and the bytes of the rest add up to the place after all bytes.
 pub fn places_add_up<V>()
     ensures { PlacesAddUp V }
 {}
@@ -75,4 +76,24 @@ pub fn places_add_up<V>()
 /// What is read doesn't depend on the place at which the bytes begin.
 pub fn place_says_nothing<V>()
     ensures { PlaceSaysNothing V }
+{}
+
+/// However a stream is cut, pushes give the items of its reading, each with its value, and the reader has the rest.
+pub fn pushes_read<V>()
+    ensures { PushesRead V }
+{}
+
+/// A loop that pushes what is left of some bytes has read the items that end at its place or before it.
+pub fn reads_on<V>()
+    ensures { ReadsOn V }
+{}
+
+/// At the end of the bytes they are read as the items so far, and a rest that is short.
+pub fn reads_all<V>()
+    ensures { ReadsAll V }
+{}
+
+/// At a fault the bytes are read as the items so far, and a rest that begins with the fault.
+pub fn reads_broken<V>()
+    ensures { ReadsBroken V }
 {}

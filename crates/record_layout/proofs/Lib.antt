@@ -1,3 +1,4 @@
+pub mod BodyLaws
 pub mod Fitting
 pub mod Following
 pub mod PacketFills

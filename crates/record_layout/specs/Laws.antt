@@ -4,9 +4,10 @@ use Rattle.avl_values.specs.declared.codec.Codec.{Codec}
 use Rattle.layout.specs.Bytes.{AreBytes}
 use Rattle.layout.specs.Rows.{whole, short}
 use Rattle.record_layout.specs.declared.head.PacketHead.{PacketHead}
+use Rattle.record_layout.specs.Body.{IsBody}
 use Rattle.record_layout.specs.Packet.{IsPacket}
 use Rattle.record_layout.specs.PacketRows.{packet_verdict}
-use Rattle.record_layout.specs.RecordsOf.{records_of}
+use Rattle.record_layout.specs.RecordsOf.{count_of, records_of}
 
 -- A whole verdict says that the body of so many bytes is there and is a packet.
 abbrev pub WholeIsPacket : Type 0
@@ -30,3 +31,15 @@ NoPacketBeginsAnother = (c d : Codec) (rs ss : List (List ℕ)) (a b x y : List 
 abbrev pub RecordsAreRead : Type 0
 RecordsAreRead = (codec : Codec) (records : List (List ℕ)) (bytes : List ℕ) → IsPacket codec records bytes
     → records_of bytes ≡ map (λ r. record { codec = codec; bytes = r }) records
+
+-- Bytes that are judged to be a whole body are one.
+abbrev pub WholeIsBody : Type 0
+WholeIsBody = (head : PacketHead) (body : List ℕ) → AreBytes body → packet_verdict (length body) body ≡ whole head (length body) → IsBody head body
+
+-- And a body is judged to be whole.
+abbrev pub BodyIsWhole : Type 0
+BodyIsWhole = (head : PacketHead) (body : List ℕ) → IsBody head body → packet_verdict (length body) body ≡ whole head (length body)
+
+-- Its head's number of records is that of the records that are read from it.
+abbrev pub BodyIsCounted : Type 0
+BodyIsCounted = (head : PacketHead) (body : List ℕ) → IsBody head body → head.count ≡ count_of body

@@ -1,3 +1,4 @@
+pub mod Body
 pub mod Laws
 pub mod Packet
 pub mod PacketRows

@@ -1,5 +1,5 @@
 //! The laws of data bodies, each as the contract of a function that does nothing.
-ghost use Rattle.record_layout.specs.Laws.{NoPacketBeginsAnother, PacketIsWhole, PacketVerdictStays, RecordsAreRead, WholeIsPacket};
+ghost use Rattle.record_layout.specs.Laws.{BodyIsCounted, BodyIsWhole, WholeIsBody, NoPacketBeginsAnother, PacketIsWhole, PacketVerdictStays, RecordsAreRead, WholeIsPacket};
 
 /// A whole verdict says that the body of so many bytes is there, and is a packet with the number of records that it says.
 pub fn whole_is_packet()
@@ -24,4 +24,19 @@ pub fn no_packet_begins_another()
 /// A packet has one list of records, which is what `records_of` reads from its bytes.
 pub fn records_are_read()
     ensures { RecordsAreRead }
+{}
+
+/// Bytes that are judged to be a whole body are one.
+pub fn whole_is_body()
+    ensures { WholeIsBody }
+{}
+
+/// A body is judged to be whole.
+pub fn body_is_whole()
+    ensures { BodyIsWhole }
+{}
+
+/// A body's head has the number of the records that are read from it.
+pub fn body_is_counted()
+    ensures { BodyIsCounted }
 {}

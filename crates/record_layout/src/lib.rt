@@ -8,7 +8,7 @@ mod part;
 
 pub use head::PacketHead;
 pub use laws::{
-    no_packet_begins_another, packet_is_whole, packet_verdict_stays, records_are_read,
-    whole_is_packet,
+    body_is_counted, body_is_whole, no_packet_begins_another, packet_is_whole,
+    packet_verdict_stays, records_are_read, whole_is_body, whole_is_packet,
 };
 pub use part::{Part, parts};

@@ -7,7 +7,7 @@ use Rattle.avl_values.specs.Record.{Record}
 use Rattle.layout.specs.Rows.{Verdict, whole, short, fault}
 use Rattle.record_layout.specs.PacketRows.{packet_verdict}
 use Rattle.record_layout.specs.RecordsOf.{records_of}
-use Rattle.frame_layout.specs.Items.{count_of, frame_of}
+use Rattle.frame_layout.specs.Items.{count_bytes, frame_of}
 
 -- how many bytes a login has
 abbrev pub login_size : ℕ
@@ -67,4 +67,4 @@ records_in frames = flat_map (λ f. f.records) frames
 
 -- the counts, down: for each frame the number of its records
 abbrev pub counts_of : List Frame → List ℕ
-counts_of frames = flat_map (λ f. count_of (length f.records)) frames
+counts_of frames = flat_map (λ f. count_bytes (length f.records)) frames
