@@ -15,7 +15,7 @@ use Rattle.command_codecs.specs.declared.row.Row.{Row}
 use Rattle.command_codecs.specs.CommandCursor.{Follows, digits_of, left_of, rows_from, said}
 use Rattle.command_codecs.specs.declared.cursor.Left.TheVariants as left
 use Rattle.command_codecs.specs.declared.cursor.Cursor.{Cursor}
-use Rattle.command_codecs.specs.Views.{row_is}
+use Rattle.command_codecs.specs.Views.{kinds_of, row_is}
 
 pub known_codec : (way : Way) (total value : ℕ) (row : Row) (v : CommandValue) (field : List ℕ) → number field ≡ value → Some (row_is row) ≡ row_of way value → Follows way total at.Codec v field (Ok (at.Quantity row))
 unfolding command_rows
@@ -27,13 +27,13 @@ pub unknown_codec : (way : Way) (total value : ℕ) (v : CommandValue) (field : 
 unfolding command_rows
 unknown_codec way total value v field n e = ap row_rule (ap (row_of way) n ∙ sym e)
 
-pub right_kind : (way : Way) (total value : ℕ) (row : Row) (v : CommandValue) (field : List ℕ) → number field ≡ value → is_among value row.kinds.now ≡ true → Follows way total (at.Kind row) v field (Ok (at.Size row))
+pub right_kind : (way : Way) (total value : ℕ) (row : Row) (v : CommandValue) (field : List ℕ) → number field ≡ value → is_among value (kinds_of row.kinds) ≡ true → Follows way total (at.Kind row) v field (Ok (at.Size row))
 unfolding kind_rows
-right_kind way total value row v field n e = (ap (λ t. fault_unless t CommandType) (ap (λ k. is_among k row.kinds.now) n ∙ e), refl)
+right_kind way total value row v field n e = (ap (λ t. fault_unless t CommandType) (ap (λ k. is_among k (kinds_of row.kinds)) n ∙ e), refl)
 
-pub wrong_kind : (way : Way) (total value : ℕ) (row : Row) (v : CommandValue) (field : List ℕ) → number field ≡ value → is_among value row.kinds.now ≡ false → Follows way total (at.Kind row) v field (Err CommandType)
+pub wrong_kind : (way : Way) (total value : ℕ) (row : Row) (v : CommandValue) (field : List ℕ) → number field ≡ value → is_among value (kinds_of row.kinds) ≡ false → Follows way total (at.Kind row) v field (Err CommandType)
 unfolding kind_rows
-wrong_kind way total value row v field n e = ap (λ t. fault_unless t CommandType) (ap (λ k. is_among k row.kinds.now) n ∙ e)
+wrong_kind way total value row v field n e = ap (λ t. fault_unless t CommandType) (ap (λ k. is_among k (kinds_of row.kinds)) n ∙ e)
 
 -- the size
 
