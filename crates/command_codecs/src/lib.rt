@@ -6,6 +6,8 @@ mod command;
 mod cursor;
 mod hearing;
 mod machine;
+mod place;
+mod reading;
 mod row;
 mod scanning;
 mod verdict;

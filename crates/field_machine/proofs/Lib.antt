@@ -1,3 +1,3 @@
-mod Fields
+pub mod Fields
 pub mod MachineSteps
 mod ScanSteps

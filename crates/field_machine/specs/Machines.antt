@@ -9,6 +9,10 @@ use Rattle.field_machine.specs.declared.verdict.Scan.{Scan}
 use Rattle.field_machine.specs.declared.verdict.Scan.TheVariants.{More, Whole, Broken}
 use Rattle.field_machine.specs.Verdicts.{IsVerdict}
 
+-- how many bytes the machine has taken
+abbrev pub taken_of : {C : Type 0} → Machine C → ℕ
+taken_of m = m.taken
+
 -- a body of `total` bytes that begins with a field of some bytes
 abbrev pub Begins : {H : Type 0} → Left H → ℕ → Type 0
 Begins (left.Field width) total = (0 < width) × (width ≤ total)

@@ -23,7 +23,7 @@ pub struct Machine<C> {
 
 impl<C: Cursor> Machine<C> {
     ghost use Rattle.field_machine.specs.declared.left.Left.TheVariants as left;
-    ghost use Rattle.field_machine.specs.Machines.{Begins, HasTaken, IsTaking, GoesOn, Enters};
+    ghost use Rattle.field_machine.specs.Machines.{Begins, HasTaken, IsTaking, GoesOn, Enters, taken_of};
     ghost use Rattle.field_machine.specs.Verdicts.{IsVerdict};
 
     /// A machine for a body of `total` bytes that begins at this place, before the first.
@@ -44,9 +44,10 @@ impl<C: Cursor> Machine<C> {
         }
     }
 
-    /// How many bytes it has taken.
+    /// How many bytes it has taken, also after the last.
     pub fn taken(&self) -> u32
-        ensures { (total : ℕ) → (rows : Rows C.Value) → (bytes : List ℕ) → HasTaken C.left_of C.stands self.now total rows bytes → result ≡ length bytes }
+        ensures is { result ≡ taken_of self.now }
+        ensures all { (total : ℕ) → (rows : Rows C.Value) → (bytes : List ℕ) → HasTaken C.left_of C.stands self.now total rows bytes → result ≡ length bytes }
     {
         self.taken
     }
@@ -56,7 +57,7 @@ impl<C: Cursor> Machine<C> {
         requires { IsTaking C.left_of C.stands self.old }
         ensures answers { (total : ℕ) → (rows : Rows C.Value) → (bytes : List ℕ) → HasTaken C.left_of C.stands self.old total rows bytes → IsVerdict C.says total result (judge (body total rows) 0 (bytes ++ byte ∷ [])) }
         ensures goes_on { (total : ℕ) → (rows : Rows C.Value) → (bytes : List ℕ) → HasTaken C.left_of C.stands self.old total rows bytes → GoesOn C.left_of C.stands self.new total rows (bytes ++ byte ∷ []) result }
-        ensures counted { self.new.taken ≡ self.old.taken + 1 }
+        ensures counted { taken_of self.new ≡ taken_of self.old + 1 }
         ensures step { steps.new ≡ steps.old + 1 }
     {
         steps.tick();
@@ -67,7 +68,7 @@ impl<C: Cursor> Machine<C> {
         requires { IsTaking C.left_of C.stands self.old }
         ensures answers { (total : ℕ) → (rows : Rows C.Value) → (bytes : List ℕ) → HasTaken C.left_of C.stands self.old total rows bytes → IsVerdict C.says total result (judge (body total rows) 0 (bytes ++ byte ∷ [])) }
         ensures goes_on { (total : ℕ) → (rows : Rows C.Value) → (bytes : List ℕ) → HasTaken C.left_of C.stands self.old total rows bytes → GoesOn C.left_of C.stands self.new total rows (bytes ++ byte ∷ []) result }
-        ensures counted { self.new.taken ≡ self.old.taken + 1 }
+        ensures counted { taken_of self.new ≡ taken_of self.old + 1 }
     {
         self.taken += 1;
         self.missing -= 1;
