@@ -1,5 +1,5 @@
 -- A cursor's next field, over the rows that are left.
-use Rattle.std.proofs.Common.{◌≡◌, ℕ, ◌+◌, ◌*◌, ◌<◌, ◌≤◌, ◌^◌, List, length, take, drop, Some, sym, ap, subst, ◌∙◌, arith, length-take, length-drop}
+use Rattle.std.proofs.Common.{◌≡◌, ℕ, ◌+◌, ◌*◌, ◌<◌, ◌≤◌, ◌^◌, List, length, take, drop, zero, suc, Some, sym, ap, subst, ◌∙◌, arith, length-take, length-drop}
 use Rattle.layout.specs.Rows.{Rows, done}
 use Rattle.layout.specs.Next.{width_of}
 use Rattle.field_machine.specs.declared.left.Left.{Left}
@@ -17,6 +17,11 @@ at_end says l head here leaves is = subst (λ x. Leaves says x here) is leaves
 
 pub fits_in : {H : Type 0} (l : Left H) (w value : ℕ) → l ≡ left.Field w → (w ≤ 8 → value < 256 ^ w) → FitsIn l value
 fits_in l w value is small = subst (λ x. FitsIn x value) (sym is) small
+
+pub turns_few : {H : Type 0} (l : Left H) → turns l ≤ 1
+turns_few (left.Field zero) = omega arith
+turns_few (left.Field (suc width)) = omega arith
+turns_few (left.Nothing head) = omega arith
 
 -- only a field of no bytes takes a turn
 pub turns_one : {H : Type 0} (l : Left H) (w : ℕ) → l ≡ left.Field w → w ≡ 0 → turns l ≡ 1

@@ -1,24 +1,19 @@
 //! Where in a data body the next field stands.
 ghost use Rattle.std.specs.Prelude.{◌≡◌, ◌<◌, ◌≤◌, ◌+◌, ℕ, List, length, Some, IfOk};
 ghost use Rattle.layout.specs.Fields.{number};
-ghost use Rattle.layout.specs.Next.{width_of};
-ghost use Rattle.record_codecs.specs.RecordCursor.{Reads};
-ghost use Rattle.record_codecs.specs.BodyCursor.{rows_at, records_left, weight, HasLeft, Follows};
+ghost use Rattle.field_machine.specs.Places.{Follows, Reads, turns};
+ghost use Rattle.field_machine.specs.declared.left.Left.TheVariants as left;
+ghost use Rattle.record_codecs.specs.RecordCursor.{width_in};
+ghost use Rattle.record_codecs.specs.BodyCursor.{left_of, rows_at, records_left, StandsAt};
 
 use crate::in_record::InRecord;
 use avl_values::{Codec, FaultKind};
+use field_machine::{Cursor, Left, Place};
 use record_layout::PacketHead;
-
-/// What is left of a body: a field of so many bytes, or nothing of a body that says this.
-#[derive(Clone, Copy)]
-pub enum Left {
-    Field(u64),
-    Nothing(PacketHead),
-}
 
 /// The next field of a body, or its end.
 #[derive(Clone, Copy)]
-pub enum Cursor {
+pub enum NextField {
     Codec,
     Count(Codec),
     /// A field of a record, after which so many records stand.
@@ -29,35 +24,35 @@ pub enum Cursor {
 
 /// The first field of so many records, or of what follows the last.
 #[inline(always)]
-fn next_record(head: PacketHead, left: u8) -> Cursor
+fn next_record(head: PacketHead, left: u8) -> NextField
     ensures rows { rows_at result ≡ records_left head left }
-    ensures turns { weight result ≡ 0 }
+    ensures turns { turns (left_of result) ≡ 0 }
 {
     if left == 0 {
-        Cursor::LastCount(head)
+        NextField::LastCount(head)
     } else {
         let first = InRecord::first(head.codec);
-        Cursor::Record(head, left - 1, first)
+        NextField::Record(head, left - 1, first)
     }
 }
 
 #[inline(always)]
-fn after_codec_id(value: u64) -> Result<Cursor, FaultKind>
+fn after_codec_id(value: u64) -> Result<NextField, FaultKind>
     requires { value < 256 }
-    ensures follows { (field : List ℕ) → number field ≡ value → Follows (rows_at Cursor.Codec) field result }
-    ensures turns { IfOk result (λ cursor. weight cursor ≡ 0) }
+    ensures follows { (field : List ℕ) → number field ≡ value → Follows StandsAt (rows_at NextField.Codec) field result }
+    ensures turns { IfOk result (λ cursor. turns (left_of cursor) ≡ 0) }
 {
     match Codec::from_id(value as u8) {
-        Some(codec) => Ok(Cursor::Count(codec)),
+        Some(codec) => Ok(NextField::Count(codec)),
         None => Err(FaultKind::UnknownCodec),
     }
 }
 
 #[inline(always)]
-fn after_count(codec: Codec, value: u64) -> Result<Cursor, FaultKind>
+fn after_count(codec: Codec, value: u64) -> Result<NextField, FaultKind>
     requires { value < 256 }
-    ensures follows { (field : List ℕ) → number field ≡ value → Follows (rows_at (Cursor.Count codec)) field result }
-    ensures turns { IfOk result (λ cursor. weight cursor ≡ 0) }
+    ensures follows { (field : List ℕ) → number field ≡ value → Follows StandsAt (rows_at (NextField.Count codec)) field result }
+    ensures turns { IfOk result (λ cursor. turns (left_of cursor) ≡ 0) }
 {
     if value == 0 {
         return Err(FaultKind::NoRecords);
@@ -67,55 +62,65 @@ fn after_count(codec: Codec, value: u64) -> Result<Cursor, FaultKind>
 }
 
 #[inline(always)]
-fn after_last_count(head: PacketHead, value: u64) -> Result<Cursor, FaultKind>
-    ensures follows { (field : List ℕ) → number field ≡ value → Follows (rows_at (Cursor.LastCount head)) field result }
-    ensures turns { IfOk result (λ cursor. weight cursor ≡ 0) }
+fn after_last_count(head: PacketHead, value: u64) -> Result<NextField, FaultKind>
+    ensures follows { (field : List ℕ) → number field ≡ value → Follows StandsAt (rows_at (NextField.LastCount head)) field result }
+    ensures turns { IfOk result (λ cursor. turns (left_of cursor) ≡ 0) }
 {
     if value == u64::from(head.count) {
-        Ok(Cursor::End(head))
+        Ok(NextField::End(head))
     } else {
         Err(FaultKind::CountMismatch)
     }
 }
 
 #[inline(always)]
-fn after_field(head: PacketHead, left: u8, at: InRecord, value: u64) -> Result<Cursor, FaultKind>
-    ensures follows { (field : List ℕ) → Some (length field) ≡ width_of (rows_at (Cursor.Record head left at)) → Reads field value → Follows (rows_at (Cursor.Record head left at)) field result }
-    ensures turns { IfOk result (λ cursor. weight cursor + weight (Cursor.Record head left at) ≤ 1) }
+fn after_field(head: PacketHead, left: u8, at: InRecord, value: u64) -> Result<NextField, FaultKind>
+    ensures follows { (field : List ℕ) → length field ≡ width_in at → Reads field value → Follows StandsAt (rows_at (NextField.Record head left at)) field result }
+    ensures turns { IfOk result (λ cursor. turns (left_of cursor) + turns (left_of (NextField.Record head left at)) ≤ 1) }
 {
     match at.next(value) {
-        Ok(Some(next)) => Ok(Cursor::Record(head, left, next)),
+        Ok(Some(next)) => Ok(NextField::Record(head, left, next)),
         Ok(None) => Ok(next_record(head, left)),
         Err(kind) => Err(kind),
     }
 }
 
-impl Cursor {
-    /// The width of the next field, if one is left.
+impl Place for NextField {
+    ghost use Rattle.record_layout.specs.declared.head.PacketHead.{PacketHead};
+    ghost use Rattle.record_codecs.specs.BodyCursor.{StandsAt, SaysHead};
+    ghost use Rattle.record_codecs.specs.CursorLaws.{body_leaves};
+
+    type Head = PacketHead;
+
+    ghost Value = { PacketHead };
+
+    ghost says = { SaysHead };
+
+    ghost left_of = { left_of };
+
+    ghost stands = { StandsAt };
+
+    ghost leaves = { body_leaves };
+
     #[inline(always)]
-    pub fn left(self) -> Left
-        ensures { HasLeft (rows_at self) result }
-    {
+    fn left(self) -> Left<PacketHead> {
         match self {
-            Cursor::Codec | Cursor::Count(_) | Cursor::LastCount(_) => Left::Field(1),
-            Cursor::Record(_, _, at) => Left::Field(at.width()),
-            Cursor::End(head) => Left::Nothing(head),
+            NextField::Codec | NextField::Count(_) | NextField::LastCount(_) => Left::Field(1),
+            NextField::Record(_, _, at) => Left::Field(at.width()),
+            NextField::End(head) => Left::Nothing(head),
         }
     }
+}
 
-    /// What stands after a field of this value, or the rule that the field breaks.
+impl Cursor for NextField {
     #[inline(always)]
-    pub fn next(self, value: u64) -> Result<Cursor, FaultKind>
-        requires { width_of (rows_at self) ≡ Some 1 → value < 256 }
-        ensures follows { (field : List ℕ) → Some (length field) ≡ width_of (rows_at self) → Reads field value → Follows (rows_at self) field result }
-        ensures turns { IfOk result (λ cursor. weight cursor + weight self ≤ 1) }
-    {
+    fn next(self, value: u64) -> Result<NextField, FaultKind> {
         match self {
-            Cursor::Codec => after_codec_id(value),
-            Cursor::Count(codec) => after_count(codec, value),
-            Cursor::Record(head, left, at) => after_field(head, left, at, value),
-            Cursor::LastCount(head) => after_last_count(head, value),
-            Cursor::End(head) => Ok(Cursor::End(head)),
+            NextField::Codec => after_codec_id(value),
+            NextField::Count(codec) => after_count(codec, value),
+            NextField::Record(head, left, at) => after_field(head, left, at, value),
+            NextField::LastCount(head) => after_last_count(head, value),
+            NextField::End(head) => Ok(NextField::End(head)),
         }
     }
 }

@@ -13,7 +13,6 @@ mod record;
 mod record_iter;
 mod record_view;
 mod scanning;
-mod verdict;
 
 pub use elements::{Ios, Nxs};
 pub use machine::RecordMachine;
@@ -23,8 +22,7 @@ pub use record_iter::Records;
 pub use record_layout::PacketHead;
 pub use record_view::RecordView;
 pub use record_writing::{Body, WriteFault, write_record};
-pub use scanning::{read_packet, scan};
-pub use verdict::Scan;
+pub use scanning::{Scan, read_packet, scan};
 
 #[cfg(test)]
 mod tests;
