@@ -6,11 +6,12 @@ use Rattle.avl_values.specs.Codec.{codec_of}
 use Rattle.avl_values.specs.declared.codec.Codec.{Codec}
 use Rattle.layout.specs.Rows.{Verdict, whole, short, fault}
 use Rattle.layout.specs.MappedRows.{map_verdict}
+use Rattle.record_layout.specs.declared.head.PacketHead.{PacketHead}
 use Rattle.record_layout.specs.PacketRows.{packet_verdict}
 use Rattle.record_codecs.specs.Machines as record_machine
 use Rattle.record_codecs.specs.declared.machine.RecordMachine.{RecordMachine}
-use Rattle.record_codecs.specs.declared.verdict.Scan.{Scan}
-use Rattle.record_codecs.specs.declared.verdict.Scan.TheVariants as packet
+use Rattle.field_machine.specs.declared.verdict.Scan.{Scan}
+use Rattle.field_machine.specs.declared.verdict.Scan.TheVariants as packet
 use Rattle.record_codecs.proofs.MachineSteps as record_steps
 use Rattle.command_layout.specs.declared.way.Way.{Way}
 use Rattle.command_layout.specs.declared.way.Way.TheVariants.{Up, Down}
@@ -68,12 +69,12 @@ taken_below (machine.Command m) way total bytes h = command_steps.taken_below m 
 
 -- the answer of the machine of records is that of the body
 
-packet_answer : (m : RecordMachine) (way : Way) (total : ℕ) (bytes : List ℕ) (s : Scan) → AsPacket way total bytes → record_machine.Answers m total bytes s → Answers (machine.Packet m) way total bytes (packet_scan s)
+packet_answer : (m : RecordMachine) (way : Way) (total : ℕ) (bytes : List ℕ) (s : Scan PacketHead) → AsPacket way total bytes → record_machine.Answers m total bytes s → Answers (machine.Packet m) way total bytes (packet_scan s)
 packet_answer m way total bytes packet.More judged a = (ap (λ v. map_verdict Packet v) a.0 ∙ sym (packet_now way total bytes judged), record { has = a.1; judged = judged })
 packet_answer m way total bytes (packet.Whole head) judged a = ap (λ v. map_verdict Packet v) a ∙ sym (packet_now way total bytes judged)
 packet_answer m way total bytes (packet.Broken found) judged a = ap (λ v. map_verdict Packet v) a ∙ sym (packet_now way total bytes judged)
 
-pub packet_goes_on : (m n : RecordMachine) (way : Way) (total b : ℕ) (bytes : List ℕ) (s : Scan) → TakesPacket m way total bytes → record_machine.Answers n total (bytes ++ b ∷ []) s
+pub packet_goes_on : (m n : RecordMachine) (way : Way) (total b : ℕ) (bytes : List ℕ) (s : Scan PacketHead) → TakesPacket m way total bytes → record_machine.Answers n total (bytes ++ b ∷ []) s
     → Answers (machine.Packet n) way total (bytes ++ b ∷ []) (packet_scan s)
 packet_goes_on m n way total b bytes s h a = packet_answer n way total (bytes ++ b ∷ []) s (packet_more way total b bytes h.judged) a
 
@@ -101,7 +102,7 @@ as_packet Up total b (Some codec) some takes e = λ more. data_judged total b mo
 as_packet Up total b None some takes e = let some_codec : is_some (codec_of b) ≡ true = takes in absurd (cc)
 as_packet Down total b found some takes e = absurd (cc)
 
-pub packet_begins : (n : RecordMachine) (way : Way) (total b : ℕ) (s : Scan) → 0 < total → takes_records way b ≡ true → record_machine.Answers n total (b ∷ []) s → Answers (machine.Packet n) way total (b ∷ []) (packet_scan s)
+pub packet_begins : (n : RecordMachine) (way : Way) (total b : ℕ) (s : Scan PacketHead) → 0 < total → takes_records way b ≡ true → record_machine.Answers n total (b ∷ []) s → Answers (machine.Packet n) way total (b ∷ []) (packet_scan s)
 packet_begins n way total b s some takes a = packet_answer n way total (b ∷ []) s (as_packet way total b (codec_of b) some takes refl) a
 
 as_command : (way : Way) (total b : ℕ) (found : Option Codec) → 0 < total → takes_records way b ≡ false → codec_of b ≡ found → AsCommand way total (b ∷ [])
@@ -113,7 +114,7 @@ pub command_begins : (n : CommandMachine) (way : Way) (total b : ℕ) (s : Comma
     → Answers (machine.Command n) way total (b ∷ []) (command_scan s)
 command_begins n way total b s some takes a = command_answer n way total (b ∷ []) s (as_command way total b (codec_of b) some takes refl) a
 
-pub packet_first : (n : RecordMachine) (of_way way : Way) (of_total total b : ℕ) (bytes : List ℕ) (s : Scan) (r : BodyScan) → TakesNothing of_way of_total way total bytes → takes_records of_way b ≡ true
+pub packet_first : (n : RecordMachine) (of_way way : Way) (of_total total b : ℕ) (bytes : List ℕ) (s : Scan PacketHead) (r : BodyScan) → TakesNothing of_way of_total way total bytes → takes_records of_way b ≡ true
     → record_machine.Answers n of_total (b ∷ []) s → r ≡ packet_scan s → Answers (machine.Packet n) way total (bytes ++ b ∷ []) r
 packet_first n of_way way of_total total b bytes s r h takes a e =
     let made = packet_begins n way total b s h.some (ap (λ (w : Way). takes_records w b) (sym h.same_way) ∙ takes) (subst (λ k. record_machine.Answers n k (b ∷ []) s) h.same_total a) in

@@ -4,11 +4,12 @@ use Rattle.std.specs.Option.{is_some}
 use Rattle.avl_values.specs.Codec.{codec_of}
 use Rattle.layout.specs.Rows.{Verdict, whole, short, fault}
 use Rattle.layout.specs.MappedRows.{map_verdict}
+use Rattle.record_layout.specs.declared.head.PacketHead.{PacketHead}
 use Rattle.record_layout.specs.PacketRows.{packet_verdict}
 use Rattle.record_codecs.specs.Machines as record_machine
 use Rattle.record_codecs.specs.declared.machine.RecordMachine.{RecordMachine}
-use Rattle.record_codecs.specs.declared.verdict.Scan.{Scan}
-use Rattle.record_codecs.specs.declared.verdict.Scan.TheVariants as packet
+use Rattle.field_machine.specs.declared.verdict.Scan.{Scan}
+use Rattle.field_machine.specs.declared.verdict.Scan.TheVariants as packet
 use Rattle.command_layout.specs.declared.way.Way.{Way}
 use Rattle.command_layout.specs.declared.way.Way.TheVariants.{Up, Down}
 use Rattle.command_layout.specs.CommandRows.{command_verdict}
@@ -30,7 +31,7 @@ takes_records Up id = is_some (codec_of id)
 takes_records Down id = false
 
 -- the answers of the machines of records and of commands
-abbrev pub packet_scan : Scan → BodyScan
+abbrev pub packet_scan : Scan PacketHead → BodyScan
 packet_scan packet.More = scan.More
 packet_scan (packet.Whole head) = scan.Whole (Packet head)
 packet_scan (packet.Broken found) = scan.Broken found
