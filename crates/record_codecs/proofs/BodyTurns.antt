@@ -67,7 +67,7 @@ width_turns W4 = refl
 width_turns W8 = refl
 
 part_turns : (p : Part) → turns (let l : Left PacketHead = left.Field (first_width_of p) in l) ≡ 0
-part_turns (Plain w) = width_turns w
+part_turns (Plain f w) = width_turns w
 part_turns (Total w) = width_turns w
 part_turns (Pairs c i w) = width_turns c
 part_turns (Triples c i w) = width_turns c

@@ -8,6 +8,7 @@ use Rattle.avl_values.specs.declared.width.Width.{Width}
 use Rattle.avl_values.specs.declared.width.Width.TheVariants.{W1, W2, W4, W8}
 use Rattle.layout.specs.Fields.{number, times, fault_unless}
 use Rattle.field_machine.specs.Places.{Reads}
+use Rattle.record_layout.specs.declared.part.Field.{Field}
 use Rattle.record_layout.specs.declared.part.Part.{Part}
 use Rattle.record_layout.specs.declared.part.Part.TheVariants.{Plain, Total, Pairs, Triples}
 use Rattle.record_layout.specs.RecordRows.{count_rule, pair_rows, triple_rows, parts_rows}
@@ -24,7 +25,7 @@ small_width W4 = omega arith
 small_width W8 = omega arith
 
 small_part : (p : Part) → first_width_of p ≤ 8
-small_part (Plain w) = small_width w
+small_part (Plain f w) = small_width w
 small_part (Total w) = small_width w
 small_part (Pairs c i w) = small_width c
 small_part (Triples c i w) = small_width c
@@ -49,9 +50,9 @@ rule_fails (p ∷ ps) total n e = unless_fails (not (nat_lt total n)) n e
 
 -- Turns of a part's first field.
 
-pub plain_turn : (r : RecordState) (w : Width) (p : Part) (field : List ℕ) (next : Option InRecord) → p ≡ Plain w → rows_from next ≡ parts_left r → FollowsIn (rows_in (at.Part r p)) field (Ok next)
+pub plain_turn : (r : RecordState) (f : Field) (w : Width) (p : Part) (field : List ℕ) (next : Option InRecord) → p ≡ Plain f w → rows_from next ≡ parts_left r → FollowsIn (rows_in (at.Part r p)) field (Ok next)
 unfolding parts_rows
-plain_turn r w p field next is rows = subst (λ q. FollowsIn (rows_in (at.Part r q)) field (Ok next)) (sym is) (refl, sym rows)
+plain_turn r f w p field next is rows = subst (λ q. FollowsIn (rows_in (at.Part r q)) field (Ok next)) (sym is) (refl, sym rows)
 
 pub total_turn : (r : RecordState) (w : Width) (p : Part) (field : List ℕ) (value : ℕ) (next : Option InRecord) → p ≡ Total w → length field ≡ first_width_of p → Reads field value
     → rows_from next ≡ parts_left (record r { total = value }) → FollowsIn (rows_in (at.Part r p)) field (Ok next)

@@ -23,7 +23,7 @@ packet_width = refl
 
 part_width : (p : Part) (ps : List Part) (total counted : ℕ) → width_of (parts_rows (p ∷ ps) total counted nothing) ≡ Some (first_width_of p)
 unfolding parts_rows
-part_width (Plain w) ps total counted = refl
+part_width (Plain f w) ps total counted = refl
 part_width (Total w) ps total counted = refl
 part_width (Pairs c i w) ps total counted = refl
 part_width (Triples c i w) ps total counted = refl

@@ -45,7 +45,7 @@ abbrev pub counted_with : List Part → ℕ → ℕ → Option ℕ
 counted_with ps total counted = some_unless (count_rule ps total counted) counted
 
 abbrev pub first_width_of : Part → ℕ
-first_width_of (part.Plain width) = bytes_of width
+first_width_of (part.Plain field width) = bytes_of width
 first_width_of (part.Total width) = bytes_of width
 first_width_of (part.Pairs count id value) = bytes_of count
 first_width_of (part.Triples count id len) = bytes_of count

@@ -8,7 +8,7 @@ ghost use Rattle.record_codecs.specs.RecordCursor.{rows_in, rows_from, parts_lef
 
 use crate::part_walk::counted_with;
 use avl_values::{Codec, FaultKind, Width};
-use record_layout::{Part, parts};
+use record_layout::{Field, Part, parts};
 
 /// A record: its codec, the part after the one that is read, its total, and the sum of its counts so far.
 #[derive(Clone, Copy)]
@@ -118,7 +118,7 @@ impl RecordState {
         ensures turns { IfOk result (λ next. weight_from next ≡ 0) }
     {
         match part {
-            Part::Plain(_) => Ok(self.next_part()),
+            Part::Plain(_, _) => Ok(self.next_part()),
             Part::Total(_) => Ok(RecordState {
                 total: value,
                 ..self
@@ -150,7 +150,7 @@ fn first_width(part: Part) -> u64
     ensures { result ≡ first_width_of part }
 {
     let width = match part {
-        Part::Plain(width) | Part::Total(width) => width,
+        Part::Plain(_, width) | Part::Total(width) => width,
         Part::Pairs(count, _, _) | Part::Triples(count, _, _) => count,
     };
     u64::from(width.bytes())
@@ -170,7 +170,7 @@ impl InRecord {
             total: 0,
             counted: 0,
         };
-        InRecord::Part(record, Part::Plain(Width::W8))
+        InRecord::Part(record, Part::Plain(Field::Time, Width::W8))
     }
 
     /// The width of the field.

@@ -93,7 +93,7 @@ impl<'a> PartWalk<'a> {
         ensures { IsPast part left.now self.entry result }
     {
         match part {
-            Part::Plain(width) => {
+            Part::Plain(_, width) => {
                 let rest = skip(self.rest, u64::from(width.bytes()))?;
                 Some(PartWalk { rest, ..self })
             }

@@ -8,8 +8,9 @@ ghost use Rattle.record_codecs.specs.Elements.{ios_of};
 ghost use Rattle.record_codecs.specs.Views.{ios_left, nx_left};
 ghost use Rattle.record_codecs.specs.Shown.{Shows, codec_of, elements_from, generation_of, gps_of, viewed};
 
-use crate::elements::{Ios, Nxs, after_groups, id_width, split_front, split_number};
+use crate::elements::{Ios, Nxs, after_groups, split_front, split_number};
 use avl_values::{Codec, Gps, Width};
+use record_layout::id_width;
 
 /// A record in a codec, read in place. What it answers is the record's value where its bytes are one record (`is_record`); of
 /// other bytes the answers are of no use.
