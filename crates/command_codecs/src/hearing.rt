@@ -1,7 +1,7 @@
 //! What a command has said so far.
 ghost use Rattle.std.specs.Prelude.{◌≡◌, ◌≤◌, ◌<◌, ◌+◌, ◌*◌, ◌/◌, ◌%◌, ◌^◌, ℕ, List, Some, length};
-ghost use Rattle.layout.specs.Fields.{number};
 ghost use Rattle.command_layout.specs.Values.{CommandValue};
+ghost use Rattle.field_machine.specs.Places.{FitsIn, Reads};
 ghost use Rattle.field_machine.specs.declared.left.Left.TheVariants as left;
 ghost use Rattle.command_codecs.specs.CommandCursor.{digits_of, heard, left_of};
 ghost use Rattle.command_codecs.specs.Hearing.{Says, nothing_said, with_text};
@@ -54,13 +54,10 @@ impl Said {
     }
 
     /// Once the field at this place says its value too.
-    pub fn heard(self, at: NextField, field: &[u8], value: u64) -> Said
-        requires width { left_of at ≡ left.Field (length field.now) }
-        requires value { length field.now ≤ 8 → value ≡ number field.now }
-        requires small { length field.now ≤ 8 → value < 256 ^ length field.now }
-        ensures { (v : CommandValue) → Says self v → Says result (heard at v field.now) }
+    pub fn heard(self, at: NextField, value: u64) -> Said
+        requires { FitsIn (left_of at) value }
+        ensures { (v : CommandValue) → (field : List ℕ) → left_of at ≡ left.Field (length field) → Reads field value → Says self v → Says result (heard at v field) }
     {
-        let _field = field;
         match at {
             NextField::Codec => Said {
                 codec: value as u8,

@@ -74,7 +74,7 @@ impl Reading for Hearing {
         match self.at.next(self.way, self.total, value) {
             Ok(at) => Ok(Hearing {
                 at,
-                said: self.said.heard(self.at, field, value),
+                said: self.said.heard(self.at, value),
                 text: text_heard(self.at, self.text),
                 ..self
             }),

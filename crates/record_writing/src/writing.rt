@@ -104,8 +104,8 @@ fn put_elements(out: &mut ArrayVec<u8, 255>, codec: Codec, value: &AvlRecord)
     }
 }
 
-#[tactic(auto, using(crate::proofs::Pieces::length_pieces))]
 /// A whole record, of a value that the codec has and that has room.
+#[tactic(auto, using(crate::proofs::Pieces::length_pieces))]
 fn put_record(out: &mut ArrayVec<u8, 255>, codec: Codec, value: &AvlRecord)
     requires empty { out.old.items ≡ [] }
     requires room { record_length codec (value_of value.now) ≤ 255 }

@@ -10,7 +10,7 @@ returns-in-Ok-clause-follows c here (v, e, says) =
     let field = c.args.field.now in
     let width = left_as (left_of at) (heard_of c.args.self) (length field) c.requires in
     let on = stands_on c.args.self.way c.args.self.total at c.in-Ok.at v here field e (c.in-Ok.ensures.follows v field width (λ few. sym (c.number-value.ensures.value few))) in
-    (on.0, (heard at v field, on.1, (c.heard.ensures v says.0, c.text_heard.ensures v field width says.1)))
+    (on.0, (heard at v field, on.1, (c.heard.ensures v field width (λ few. sym (c.number-value.ensures.value few)) says.0, c.text_heard.ensures v field width says.1)))
 
 pub returns-in-Err-clause-follows : goal.returns-in-Err-clause-follows
 returns-in-Err-clause-follows c here (v, e, says) =
