@@ -16,6 +16,7 @@ mod writing;
 pub use command::{Command, well_formed};
 pub use command_layout::Way;
 pub use machine::CommandMachine;
+pub use place::CommandPlace;
 pub use scanning::{read_command, scan_command};
 pub use verdict::CommandScan;
 pub use writing::write_command;

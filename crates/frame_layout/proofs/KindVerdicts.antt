@@ -51,7 +51,7 @@ pub order_judged : (total : ℕ) (bytes : List ℕ) → body_verdict Down total 
 unfolding body_verdict command_verdict
 order_judged total bytes = map_body_judged says_command (command_rows Down total) total 0 bytes
 
-kind_width : (way : Way) (total : ℕ) → width_of (body_kind_rows way total) ≡ Some 1
+pub kind_width : (way : Way) (total : ℕ) → width_of (body_kind_rows way total) ≡ Some 1
 kind_width Up total = either_width (map_value Packet packet_rows) (command_body_rows Up total) 1 data_width
 kind_width Down total = order_width Down total
 

@@ -35,13 +35,13 @@ either_width (done v) others w e = absurd (cc)
 either_width (refuse kind) others w e = absurd (cc)
 either_width (row n rule rest) others w e = e
 
-either_rule_is : {V : Type 0} (rows others : Rows V) (w : ℕ) (field : List ℕ) → width_of rows ≡ Some w → rule_of (either_rows rows others) field ≡ either_rule (rule_of rows field) (rule_of others field)
+pub either_rule_is : {V : Type 0} (rows others : Rows V) (w : ℕ) (field : List ℕ) → width_of rows ≡ Some w → rule_of (either_rows rows others) field ≡ either_rule (rule_of rows field) (rule_of others field)
 unfolding either_rows
 either_rule_is (done v) others w field e = absurd (cc)
 either_rule_is (refuse kind) others w field e = absurd (cc)
 either_rule_is (row n rule rest) others w field e = refl
 
-either_rest_is : {V : Type 0} (rows others : Rows V) (w : ℕ) (field : List ℕ) → width_of rows ≡ Some w
+pub either_rest_is : {V : Type 0} (rows others : Rows V) (w : ℕ) (field : List ℕ) → width_of rows ≡ Some w
     → rows_after (either_rows rows others) field ≡ either_rest (rule_of rows field) (rows_after rows field) (rows_after others field)
 unfolding either_rows
 either_rest_is (done v) others w field e = absurd (cc)

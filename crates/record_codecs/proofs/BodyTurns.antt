@@ -19,8 +19,8 @@ use Rattle.record_layout.specs.declared.head.PacketHead.{PacketHead}
 use Rattle.record_layout.specs.PacketRows.{packet_rows, codec_rule, with_codec}
 use Rattle.record_layout.specs.RecordRows.{lone_record}
 use Rattle.record_layout.proofs.Following.{record_follows}
-use Rattle.record_codecs.specs.declared.cursor.NextField.{NextField}
-use Rattle.record_codecs.specs.declared.cursor.NextField.TheVariants as cursor
+use Rattle.record_codecs.specs.declared.place.PacketPlace.{PacketPlace}
+use Rattle.record_codecs.specs.declared.place.PacketPlace.TheVariants as cursor
 use Rattle.record_codecs.specs.declared.in_record.InRecord.{InRecord}
 use Rattle.record_codecs.specs.declared.in_record.InRecord.TheVariants as at
 use Rattle.record_codecs.specs.CursorLaws.{in_width}
@@ -48,14 +48,14 @@ first_rows head left less r n rows =
 pub field_fails : (head : PacketHead) (left : ℕ) (r : InRecord) (field : List ℕ) (kind : FaultKind) → FollowsIn (rows_in r) field (Err kind) → Follows StandsAt (rows_at (cursor.Record head left r)) field (Err kind)
 field_fails head left r field kind fails = follow_rule (rows_in r) (λ _. records_left head left) (width_in r) field (in_width r) ∙ fails
 
-pub field_follows : (head : PacketHead) (left : ℕ) (r : InRecord) (field : List ℕ) (next : Option InRecord) (to : NextField) → FollowsIn (rows_in r) field (Ok next)
+pub field_follows : (head : PacketHead) (left : ℕ) (r : InRecord) (field : List ℕ) (next : Option InRecord) (to : PacketPlace) → FollowsIn (rows_in r) field (Ok next)
     → rows_at to ≡ followed_by (rows_from next) (λ _. records_left head left) → Follows StandsAt (rows_at (cursor.Record head left r)) field (Ok to)
 field_follows head left r field next to follows rows = (
   follow_rule (rows_in r) (λ _. records_left head left) (width_in r) field (in_width r) ∙ follows.0,
   follow_after (rows_in r) (λ _. records_left head left) (width_in r) field (in_width r) ∙ ap (λ k. followed_by k (λ _. records_left head left)) follows.1 ∙ sym rows,
 )
 
-pub after_records : (head : PacketHead) (left : ℕ) (to : NextField) → rows_at to ≡ records_left head left → rows_at to ≡ followed_by (rows_from None) (λ _. records_left head left)
+pub after_records : (head : PacketHead) (left : ℕ) (to : PacketPlace) → rows_at to ≡ records_left head left → rows_at to ≡ followed_by (rows_from None) (λ _. records_left head left)
 after_records head left to e = e ∙ sym (follow_done (tt {0}) (λ _. records_left head left))
 
 -- Only a field of no bytes takes a turn, and in a record only a text has none.

@@ -10,14 +10,14 @@ use Rattle.record_layout.specs.declared.part.Part.TheVariants.{Plain, Total, Pai
 use Rattle.record_layout.specs.PacketRows.{packet_rows}
 use Rattle.record_layout.specs.RecordRows.{parts_rows}
 use Rattle.record_layout.specs.Table.{parts_of}
-use Rattle.record_codecs.specs.declared.cursor.NextField.{NextField}
-use Rattle.record_codecs.specs.declared.cursor.NextField.TheVariants as cursor
+use Rattle.record_codecs.specs.declared.place.PacketPlace.{PacketPlace}
+use Rattle.record_codecs.specs.declared.place.PacketPlace.TheVariants as cursor
 use Rattle.record_codecs.specs.declared.in_record.InRecord.{InRecord}
 use Rattle.record_codecs.specs.declared.in_record.InRecord.TheVariants as at
 use Rattle.record_codecs.specs.RecordCursor.{first_width_of, nothing, rows_in, width_in}
 use Rattle.record_codecs.specs.BodyCursor.{SaysHead, StandsAt, left_of, records_left, rows_at}
 
-packet_width : width_of packet_rows ≡ Some 1
+pub packet_width : width_of packet_rows ≡ Some 1
 unfolding packet_rows
 packet_width = refl
 
@@ -36,12 +36,12 @@ in_width (at.TextId r t) = refl
 in_width (at.TextLength r t) = refl
 in_width (at.Text r t n) = refl
 
-left_is : (c : NextField) → Leaves SaysHead (left_of c) (rows_at c)
+left_is : (c : PacketPlace) → Leaves SaysHead (left_of c) (rows_at c)
 left_is cursor.Codec = packet_width
 left_is (cursor.Count codec) = refl
 left_is (cursor.Record head n r) = follow_width (rows_in r) (λ _. records_left head n) (width_in r) (in_width r)
 left_is (cursor.LastCount head) = refl
 left_is (cursor.End head) = (head, refl, refl)
 
-pub body_leaves : (c : NextField) (here : Rows PacketHead) → StandsAt c here → Leaves SaysHead (left_of c) here
+pub body_leaves : (c : PacketPlace) (here : Rows PacketHead) → StandsAt c here → Leaves SaysHead (left_of c) here
 body_leaves c here is = subst (λ r. Leaves SaysHead (left_of c) r) (sym is) (left_is c)

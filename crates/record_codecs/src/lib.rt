@@ -3,11 +3,11 @@
 //! records.
 #![tactic(auto)]
 
-mod cursor;
 mod elements;
 mod in_record;
 mod machine;
 mod part_walk;
+mod place;
 mod reading;
 mod record;
 mod record_iter;
@@ -16,6 +16,7 @@ mod scanning;
 
 pub use elements::{Ios, Nxs};
 pub use machine::RecordMachine;
+pub use place::PacketPlace;
 pub use reading::{records, view};
 pub use record::is_record;
 pub use record_iter::Records;

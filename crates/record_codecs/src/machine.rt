@@ -1,7 +1,7 @@
 //! A data body, judged byte by byte.
 ghost use Rattle.std.specs.Prelude.{◌≡◌, ◌<◌, ◌+◌, ℕ, List, [], ◌∷◌, ◌++◌, length};
 
-use crate::cursor::NextField;
+use crate::place::PacketPlace;
 use crate::scanning::Scan;
 use field_machine::Machine;
 use std::sync::ledger::Ledger;
@@ -11,7 +11,7 @@ use step_count::Steps;
 /// `scan` answers of all bytes so far.
 #[derive(Clone, Copy)]
 pub struct RecordMachine {
-    machine: Machine<NextField>,
+    machine: Machine<PacketPlace>,
 }
 
 impl RecordMachine {
@@ -23,7 +23,7 @@ impl RecordMachine {
         ensures { HasTaken result total [] }
     {
         RecordMachine {
-            machine: Machine::new(total, NextField::Codec),
+            machine: Machine::new(total, PacketPlace::Codec),
         }
     }
 

@@ -5,7 +5,7 @@ ghost use Rattle.record_layout.specs.PacketRows.{packet_verdict};
 ghost use Rattle.record_codecs.specs.FrontRecords.{BeginWithRecords};
 ghost use Rattle.record_codecs.specs.Verdicts.{scan_verdict, read_verdict};
 
-use crate::cursor::NextField;
+use crate::place::PacketPlace;
 use crate::record::front_record;
 use avl_values::{Codec, Fault};
 use record_layout::PacketHead;
@@ -18,7 +18,7 @@ pub fn scan(have: &[u8], total: u32) -> Scan
     requires { length have.now ≤ total }
     ensures { scan_verdict total result ≡ packet_verdict total have.now }
 {
-    field_machine::scan(have, total, NextField::Codec)
+    field_machine::scan(have, total, PacketPlace::Codec)
 }
 
 // What stands behind so many records at the front of these bytes; None where one of them isn't there whole.

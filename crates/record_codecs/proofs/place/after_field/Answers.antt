@@ -1,8 +1,8 @@
 use Rattle.std.proofs.Common.{Some, None, Ok, refl, ap, subst, arith}
-use Rattle.record_codecs.specs.declared.cursor.NextField.TheVariants as cursor
+use Rattle.record_codecs.specs.declared.place.PacketPlace.TheVariants as cursor
 use Rattle.record_codecs.specs.RecordCursor.{rows_in, weight_from, FollowsIn}
 use Rattle.record_codecs.proofs.BodyTurns.{field_turns, field_fails, field_follows, after_records}
-use Rattle.record_codecs.proofs.cursor.after_field.Goals as goal
+use Rattle.record_codecs.proofs.place.after_field.Goals as goal
 
 pub returns-in-Ok-Some-clause-follows : goal.returns-in-Ok-Some-clause-follows
 returns-in-Ok-Some-clause-follows c field width reads =

@@ -5,7 +5,7 @@ use Rattle.field_machine.specs.declared.left.Left.TheVariants as left
 use Rattle.field_machine.proofs.Fields.{same_width}
 use Rattle.record_layout.specs.declared.head.PacketHead.{PacketHead}
 use Rattle.record_codecs.specs.BodyCursor.{left_of, rows_at, StandsAt}
-use Rattle.record_codecs.proofs.cursor.NextFieldCursor.next.Goals as goal
+use Rattle.record_codecs.proofs.place.PacketPlaceCursor.next.Goals as goal
 
 pub returns-in-Codec-clause-follows : goal.returns-in-Codec-clause-follows
 returns-in-Codec-clause-follows c here field stand width reads =
