@@ -12,7 +12,7 @@ use Rattle.record_codecs.specs.CursorLaws as packet_laws
 use Rattle.command_codecs.specs.Places as command
 use Rattle.frame_layout.specs.declared.body_kind.BodyKind.{BodyKind}
 use Rattle.frame_layout.specs.declared.body_kind.BodyKind.TheVariants.{Packet, Command}
-use Rattle.frame_layout.proofs.KindVerdicts.{kind_width}
+use Rattle.frame_layout.proofs.KindFills.{kind_width}
 use Rattle.frame_channel.specs.BodyPlaces.{SaysKind, StandsAt, left_in, left_with, says_command}
 use Rattle.frame_channel.specs.declared.body_place.BodyPlace.{BodyPlace}
 use Rattle.frame_channel.specs.declared.body_place.BodyPlace.TheVariants as at
