@@ -3,7 +3,6 @@ pub mod DownLaws
 pub mod Examples
 pub mod FrameFills
 pub mod KindFills
-pub mod KindVerdicts
 pub mod Lengths
 pub mod LoginFills
 pub mod PlaceLaws

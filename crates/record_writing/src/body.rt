@@ -42,9 +42,9 @@ impl Body {
         }
     }
 
-    #[tactic(auto, using(crate::proofs::Bodies::one_more, crate::proofs::Bodies::body_length, crate::proofs::Bodies::how_many))]
     /// Adds a record of the body's codec at the end; false, with nothing changed, exactly where it would be the 256th record or
     /// the whole body, with its last byte, would have more than 1,268 bytes.
+    #[tactic(auto, using(crate::proofs::Bodies::one_more, crate::proofs::Bodies::body_length, crate::proofs::Bodies::how_many))]
     pub fn push(&mut self, bytes: &[u8]) -> bool
         requires { IsSomeRecord self.old.codec bytes.now }
         ensures room { IsTrue result ↔ HasRoomFor self.old bytes.now }

@@ -15,8 +15,9 @@ use std::alloc::Global;
 use std::env;
 
 /// A little of everything.
-const SAMPLES: [(&str, [u64; 3]); 9] = [
+const SAMPLES: [(&str, [u64; 3]); 10] = [
     ("codecs", [112, 1, 0]),
+    ("fields", [112, 1, 0]),
     ("frames", [2, 1460, 0]),
     ("lines", [7, 3, 0]),
     ("acquisition", [1000, 0, 0]),
@@ -31,7 +32,8 @@ const SAMPLES: [(&str, [u64; 3]); 9] = [
 fn work(alloc: Global, what: &str, numbers: [u64; 3]) -> Option<(u64, u64)> {
     let [first, second, third] = numbers;
     match what {
-        "codecs" => codec_work::judge_packets(alloc, first, second),
+        "codecs" => codec_work::judge_packets(alloc, first, second, false),
+        "fields" => codec_work::judge_packets(alloc, first, second, true),
         "frames" => frame_work::read_stream(alloc, first, second),
         "lines" => line_work::write_lines(alloc, first, second),
         "acquisition" => acquisition_work::acquire(first),
