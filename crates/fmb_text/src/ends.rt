@@ -1,7 +1,7 @@
 ghost use Rattle.std.specs.Prelude.{◌≡◌, ◌++◌, OnOk};
 ghost use Rattle.fmb_text.specs.Ends.{codec_word, device_end_words, server_end_words};
 
-use crate::pieces::{push, push_decimal};
+use text_streams::{push, push_decimal};
 use avl_values::{Codec, Fault, NoMemory};
 use trial_model::{DeviceEnd, ServerEnd};
 

@@ -3,7 +3,7 @@ ghost use Rattle.fmb_text.specs.Report.{report, full_report, brief_report};
 
 use crate::connections::push_connection;
 use crate::devices::{push_device, push_device_line};
-use crate::pieces::{push, push_decimal};
+use text_streams::{push, push_decimal};
 use avl_values::NoMemory;
 use std::alloc::Global;
 use trial_model::Outcome;
