@@ -1,6 +1,6 @@
 use Rattle.std.proofs.Common.{◌∙◌, arith}
-use Rattle.fmb_host.proofs.WriteLemmas.{front_grows}
-use Rattle.fmb_host.proofs.writing.write_text.Goals as goal
+use Rattle.text_streams.proofs.WriteLemmas.{front_grows}
+use Rattle.text_streams.proofs.writing.write_text.Goals as goal
 
 pub loop-at-preserved : goal.loop-at-preserved
 loop-at-preserved g c = (

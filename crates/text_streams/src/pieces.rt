@@ -5,7 +5,7 @@ use avl_values::{Imei, NoMemory};
 use itoa::Buffer;
 
 /// Appends a piece. NoMemory changes nothing.
-pub(crate) fn push(text: &mut Vec<u8>, piece: &[u8]) -> Result<(), NoMemory>
+pub fn push(text: &mut Vec<u8>, piece: &[u8]) -> Result<(), NoMemory>
     ensures ok { OnOk result (text.new.items ≡ text.old.items ++ piece.now) }
     ensures err { OnErr result (text.new.items ≡ text.old.items) }
 {
@@ -14,7 +14,7 @@ pub(crate) fn push(text: &mut Vec<u8>, piece: &[u8]) -> Result<(), NoMemory>
 }
 
 /// Appends a number in decimal. NoMemory changes nothing.
-pub(crate) fn push_decimal(text: &mut Vec<u8>, number: u64) -> Result<(), NoMemory>
+pub fn push_decimal(text: &mut Vec<u8>, number: u64) -> Result<(), NoMemory>
     ensures ok { OnOk result (text.new.items ≡ text.old.items ++ decimal number) }
     ensures err { OnErr result (text.new.items ≡ text.old.items) }
 {
@@ -23,7 +23,7 @@ pub(crate) fn push_decimal(text: &mut Vec<u8>, number: u64) -> Result<(), NoMemo
 }
 
 /// Appends the 15 digits of an IMEI. NoMemory changes nothing.
-pub(crate) fn push_imei(text: &mut Vec<u8>, imei: &Imei) -> Result<(), NoMemory>
+pub fn push_imei(text: &mut Vec<u8>, imei: &Imei) -> Result<(), NoMemory>
     ensures ok { OnOk result (text.new.items ≡ text.old.items ++ imei_text imei.now) }
     ensures err { OnErr result (text.new.items ≡ text.old.items) }
 {

@@ -1,8 +1,8 @@
-ghost use Rattle.std.specs.Prelude.{◌≡◌, ◌↔◌, ℕ, ◌<◌, ◌≤◌, List, min, Some, None, IfOk, IsErr, Contains, length, take, drop};
+ghost use Rattle.std.specs.Prelude.{◌≡◌, ◌↔◌, ℕ, ◌<◌, ◌≤◌, List, min, Some, IfOk, IsErr, Contains, length, take, drop};
 ghost use Rattle.std.specs.Io.{ReadsAtMost};
 ghost use Rattle.std.specs.Io.KnownBytes.{ReadConsumes};
 ghost use Rattle.avl_values.specs.Causes.{HasCause, more_by_one};
-ghost use Rattle.fmb_host.specs.Memory.{unread};
+ghost use Rattle.text_streams.specs.Memory.{source_state, unread};
 
 use crate::source::Source;
 use avl_values::{Failed, NoMemory};
@@ -21,9 +21,9 @@ pub struct MemorySource {
 
 impl Model for MemorySource {
     ghost use Rattle.std.specs.Prelude.{◌≤◌, ◌<◌, ◌^◌, drop, vec_len};
-    ghost use Rattle.fmb_host.specs.Memory.{SourceState};
+    ghost use Rattle.text_streams.specs.Memory.{MemorySourceView};
 
-    ghost Value = { SourceState };
+    ghost Value = { MemorySourceView };
 
     ghost view = { λ s. record { left = drop s.at s.bytes.items; failing = s.failing.items; calls = s.calls; faults = s.faults } };
 
@@ -57,11 +57,7 @@ impl MemorySource {
 }
 
 impl Source for MemorySource {
-    ghost left = { λ s. Some s.left };
-
-    ghost name = { λ s. None };
-
-    ghost failures = { λ s. s.faults };
+    ghost state = { λ s. source_state s };
 
     fn faults(&self) -> u64 {
         self.faults

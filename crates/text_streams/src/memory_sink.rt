@@ -2,7 +2,7 @@ ghost use Rattle.std.specs.Prelude.{◌≡◌, ◌↔◌, ℕ, ◌<◌, ◌≤�
 ghost use Rattle.std.specs.Io.{WritesAtMost};
 ghost use Rattle.std.specs.Io.KnownBytes.{WriteAppends};
 ghost use Rattle.avl_values.specs.Causes.{HasCause, more_by_one};
-ghost use Rattle.fmb_host.specs.Memory.{IsRefused, unwritten};
+ghost use Rattle.text_streams.specs.Memory.{IsRefused, sink_state, unwritten};
 
 use crate::sink::Sink;
 use avl_values::{Failed, NoMemory};
@@ -22,9 +22,9 @@ pub struct MemorySink {
 impl Model for MemorySink {
     ghost use Rattle.std.specs.Prelude.{◌≤◌, vec_len};
     ghost use Rattle.std.specs.Vec.{vec_capacity};
-    ghost use Rattle.fmb_host.specs.Memory.{SinkState};
+    ghost use Rattle.text_streams.specs.Memory.{MemorySinkView};
 
-    ghost Value = { SinkState };
+    ghost Value = { MemorySinkView };
 
     ghost view = { λ s. record { written = s.bytes.items; room = s.room; failing = s.failing.items; calls = s.calls; faults = s.faults } };
 
@@ -55,9 +55,7 @@ impl MemorySink {
 }
 
 impl Sink for MemorySink {
-    ghost written = { λ s. Some s.written };
-
-    ghost failures = { λ s. s.faults };
+    ghost state = { λ s. sink_state s };
 
     fn faults(&self) -> u64 {
         self.faults

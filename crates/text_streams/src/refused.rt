@@ -1,5 +1,5 @@
 ghost use Rattle.std.specs.Prelude.{◌≡◌, IfOk};
-ghost use Rattle.fmb_text.specs.Refused.{refused_line};
+ghost use Rattle.text_streams.specs.Refused.{refused_line};
 
 use crate::pieces::{push, push_decimal};
 use avl_values::NoMemory;
