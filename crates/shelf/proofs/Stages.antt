@@ -1,17 +1,11 @@
 -- A packet staged, record by record.
 use Rattle.std.proofs.Common.{◌≡◌, ℕ, ◌+◌, ◌<◌, Bool, true, false, List, [], ◌∷◌, ◌++◌, length, slice_get, Some, sym, ◌∙◌, ap, refl, subst, arith, length-append, append_assoc, if◌then◌else◌}
 use Rattle.std.specs.List.{AllByRecursion}
-use Rattle.std.proofs.lemmas.List.{append-nil, length-map, take_all}
+use Rattle.std.proofs.lemmas.List.{append-nil, length-map}
 use Rattle.avl_values.specs.Record.{Record}
 use Rattle.avl_values.specs.declared.codec.Codec.{Codec}
 use Rattle.record_layout.specs.SomeRecord.{IsSomeRecord}
-use Rattle.layout.specs.Bytes.{AreBytes}
-use Rattle.layout.specs.Rows.{whole}
-use Rattle.record_layout.specs.Packet.{IsPacket}
-use Rattle.record_layout.specs.PacketRows.{packet_verdict}
-use Rattle.record_layout.specs.RecordsOf.{records_of, count_of}
-use Rattle.record_layout.specs.declared.head.PacketHead.{PacketHead}
-use Rattle.record_layout.proofs.ReadLaws.{whole_packet, records_read}
+use Rattle.record_layout.specs.RecordsOf.{records_of}
 use Rattle.archive_journal.proofs.Packets.{IsWhole, in_codec}
 use Rattle.shelf.specs.Archive.{StoredValue, stored, has, add, admitted, ArePlaces, Begins}
 use Rattle.shelf.specs.Index.{Keyed, IsComplete}
@@ -111,13 +105,6 @@ module _ (start : List StoredValue) (imei : ℕ) (codec : Codec) (all : List Rec
   staging-places s none =
       let P : List Record → Type 0 = λ l. ArePlaces list imei l places in
       subst P (sym (append-nil s.done) ∙ ap (λ (l : List (List ℕ)). s.done ++ in_codec codec l) (sym none) ∙ s.split) s.placed
-
-pub count-is : (body : List ℕ) (head : PacketHead) (n : ℕ) → AreBytes body → packet_verdict (length body) body ≡ whole head n → head.count ≡ count_of body
-count-is body head n bytes is =
-    let w = whole_packet (length body) n head body bytes is in
-    let P : List ℕ → Type 0 = λ p. IsPacket head.codec w.0 p in
-    let packet = subst P (take_all (length body) body (omega arith)) w.3 in
-    w.4 ∙ sym (ap length (records_read head.codec w.0 body packet) ∙ length-map w.0 (λ r. let x : Record = record { codec = head.codec; bytes = r } in x))
 
 pub few-records : (codec : Codec) (body : List ℕ) (w : IsWhole codec body) → length (records_of body) < 256
 few-records codec body w =

@@ -2,12 +2,9 @@
 use Rattle.std.specs.Prelude.{◌≡◌, ℕ, ◌≤◌, ◌^◌, map, Bool, true, false, List, [], ◌∷◌, length, Result, Ok, Err}
 use Rattle.avl_values.specs.Causes.{IsAbove}
 use Rattle.avl_values.specs.Record.{Record}
-use Rattle.layout.specs.Rows.{whole}
 use Rattle.medium_model.specs.Content.{Content, settled}
 use Rattle.medium_model.specs.State.{MediumState, IfTold, Counted}
-use Rattle.record_layout.specs.PacketRows.{packet_verdict}
 use Rattle.record_layout.specs.RecordsOf.{records_of}
-use Rattle.record_layout.specs.declared.head.PacketHead.{PacketHead}
 use Rattle.archive_journal.specs.Body.{EntryValue, joined}
 use Rattle.archive_journal.specs.Entry.{IsEntry}
 use Rattle.avl_values.specs.declared.codec.Codec.{Codec}
@@ -62,11 +59,6 @@ pub record IsShelf (j : JournalView) (list : List StoredValue) (places : List (K
   pub index : IsComplete list places
   pub later : opened ≤ j.medium.faults
   pub fell : down ≡ true → IsAbove j.medium.faults opened
-
--- a body that `read_packet` accepts
-pub record IsAccepted (body : List ℕ) : Type 0 where
-  pub head : PacketHead
-  pub is : packet_verdict (length body) body ≡ whole head (length body)
 
 -- the records of a list
 abbrev pub recs_of : List StoredValue → List Record

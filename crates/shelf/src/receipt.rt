@@ -1,6 +1,7 @@
 ghost use Rattle.std.specs.Prelude.{◌≡◌, ◌≤◌, ◌^◌, length, IfOk};
 ghost use Rattle.record_layout.specs.RecordsOf.{count_of};
-ghost use Rattle.shelf.specs.Shelf.{IsAccepted};
+ghost use Rattle.record_layout.specs.Body.{IsBody};
+ghost use Rattle.record_layout.specs.declared.head.PacketHead.{PacketHead};
 
 use arrayvec::ArrayVec;
 use avl_values::Imei;
@@ -50,7 +51,7 @@ pub trait Admit {
     /// Admits the records of a data body for a device.
     fn admit(&mut self, imei: Imei, body: &[u8]) -> Result<Receipt, AdmitFault>
         requires few { length body.now ≤ 2 ^ 31 }
-        requires accepted { IsAccepted body.now }
+        requires accepted { (head : PacketHead) × IsBody head body.now }
         ensures leaves { leaves self.old imei body.now result self.new }
         ensures receipt { IfOk result (λ r. r.count ≡ count_of body.now) };
 

@@ -8,7 +8,9 @@ ghost use Rattle.record_layout.specs.RecordsOf.{count_of};
 ghost use Rattle.archive_journal.specs.Entries.{IsArchive, entries_of};
 ghost use Rattle.archive_journal.specs.Journal.{KeepsEntries};
 ghost use Rattle.shelf.specs.Archive.{IsOnce, devices_of, list_of, places_of};
-ghost use Rattle.shelf.specs.Shelf.{IsAccepted, IsDurable, Leaves};
+ghost use Rattle.record_layout.specs.Body.{IsBody};
+ghost use Rattle.record_layout.specs.declared.head.PacketHead.{PacketHead};
+ghost use Rattle.shelf.specs.Shelf.{IsDurable, Leaves};
 
 use crate::device::places;
 use crate::devices::Devices;
@@ -97,7 +99,7 @@ impl<M: Medium> Shelf<M> {
     /// four calls of the medium. Where there are none it makes no call of the medium.
     pub fn admit(&mut self, imei: Imei, body: &[u8]) -> Result<Receipt, AdmitFault>
         requires few { length body.now ≤ 2 ^ 31 }
-        requires accepted { IsAccepted body.now }
+        requires accepted { (head : PacketHead) × IsBody head body.now }
         ensures leaves { Leaves self.old imei body.now result self.new }
         ensures receipt { IfOk result (λ r. r.count ≡ count_of body.now) }
     {

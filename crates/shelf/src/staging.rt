@@ -5,7 +5,8 @@ ghost use Rattle.record_codecs.specs.SomeRecord.{IsSomeRecord};
 ghost use Rattle.record_layout.specs.RecordsOf.{records_of, count_of};
 ghost use Rattle.shelf.specs.Archive.{stored, has, add, admitted, ArePlaces, Begins};
 ghost use Rattle.shelf.specs.Index.{IsComplete};
-ghost use Rattle.shelf.specs.Shelf.{IsAccepted};
+ghost use Rattle.record_layout.specs.Body.{IsBody};
+ghost use Rattle.record_layout.specs.declared.head.PacketHead.{PacketHead};
 
 use crate::index::{Index, Key, make_key};
 use crate::receipt::Receipt;
@@ -79,7 +80,7 @@ pub fn stage(
     body: &[u8],
 ) -> Result<Receipt, NoMemory>
     requires few { length body.now ≤ 2 ^ 31 }
-    requires accepted { IsAccepted body.now }
+    requires accepted { (head : PacketHead) × IsBody head body.now }
     requires complete { IsComplete list.old.items index.old }
     ensures added { OnOk result (list.new.items ≡ admitted list.old.items imei (records_of body.now)) }
     ensures places { IfOk result (λ r. ArePlaces list.new.items imei (records_of body.now) r.places.items) }

@@ -1,9 +1,8 @@
 -- Each exit of `admit` leaves what was staged and kept.
 use Rattle.std.proofs.Common.{◌≡◌, true, ◌∙◌, Result, Ok, Err, length, sym, ap, subst, refl, arith, rules}
-use Rattle.layout.proofs.Numbers.{are_bytes}
 use Rattle.medium_model.proofs.Images.{counted-as}
 use Rattle.record_layout.specs.RecordsOf.{records_of}
-use Rattle.archive_journal.proofs.Packets.{whole-is}
+use Rattle.archive_journal.proofs.Packets.{accepted-whole}
 use Rattle.shelf.specs.Kept.{keep_calls}
 use Rattle.shelf.specs.Shelf.{ShelfView, MakesEntry, Leaves}
 use Rattle.shelf.specs.declared.receipt.AdmitFault.TheVariants.{MediumFault}
@@ -33,7 +32,7 @@ returns-then-len-known-clause-leaves g c =
 pub keep-requires-clause-entry : goal.keep-requires-clause-entry
 keep-requires-clause-entry g c =
     let grown : length c.stage.new.list.items ≡ length c.self.inside.list.items → ⊥ = λ same. c.if-len-known.false (search rules) in
-    let w = whole-is c.args.body.now c.requires.accepted.head _ (are_bytes _ (λ i. omega (arith, c.type_inv.body i))) c.requires.accepted.is in
+    let w = accepted-whole c.requires.accepted.0 c.args.body.now c.requires.accepted.1 in
     let new = behind c.self.inside.list.items c.deref-in-Ok.result.now c.len-known.result c.args.imei (records_of c.args.body.now) (search rules) (c.deref-in-Ok.ensures.value ∙ c.in-Ok.ensures.added) in
     subst MakesEntry (sym new) (makes-entry _ _ _ _ w c.requires.few (new-some c.self.inside.list.items c.stage.new.list.items c.args.imei _ c.in-Ok.ensures.added grown))
 
