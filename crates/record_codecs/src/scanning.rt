@@ -1,6 +1,7 @@
 //! The first bytes of a data body, judged.
-ghost use Rattle.std.specs.Prelude.{◌≡◌, ◌≤◌, ◌^◌, length, IfSome};
+ghost use Rattle.std.specs.Prelude.{◌≡◌, ◌≤◌, ◌<◌, ◌^◌, length, IfOk, IfSome};
 ghost use Rattle.layout.specs.Rows.{whole};
+ghost use Rattle.record_layout.specs.Body.{IsBody};
 ghost use Rattle.record_layout.specs.PacketRows.{packet_verdict};
 ghost use Rattle.record_codecs.specs.FrontRecords.{BeginWithRecords};
 ghost use Rattle.record_codecs.specs.Verdicts.{scan_verdict, read_verdict};
@@ -56,7 +57,8 @@ fn whole_packet(body: &[u8]) -> Option<PacketHead>
 /// only another one field by field.
 pub fn read_packet(body: &[u8]) -> Result<PacketHead, Fault>
     requires { length body.now ≤ 2 ^ 31 }
-    ensures { read_verdict (length body.now) result ≡ packet_verdict (length body.now) body.now }
+    ensures verdict { read_verdict (length body.now) result ≡ packet_verdict (length body.now) body.now }
+    ensures accepted { IfOk result (λ head. IsBody head body.now) }
 {
     match whole_packet(body) {
         Some(head) => Ok(head),

@@ -4,11 +4,12 @@
 
 mod device;
 mod devices;
-mod digest;
+mod index;
 mod keep;
 mod listing;
 mod receipt;
 mod shelf;
+mod staging;
 mod stored;
 
 pub use receipt::{Admit, AdmitFault, Receipt};
