@@ -2,7 +2,7 @@ ghost use Rattle.std.specs.Prelude.{◌≡◌, ◌⊎◌, ◌+◌, ◌-◌, ◌<
 ghost use Rattle.medium.specs.Buffer.{EndBy, IsOutside};
 ghost use Rattle.medium_model.specs.Content.{written};
 
-use crate::spans::{Span, copy_spans};
+use crate::spans::{Span, copy_spans, copy_to, fill_from};
 use avl_values::NoMemory;
 use std::alloc::Global;
 use std::marker::Model;
@@ -23,6 +23,16 @@ impl Model for Image {
     ghost view = { λ i. record { bytes = take i.len i.bytes.items; room = length i.bytes.items } };
 
     ghost invariant = { λ i. IsPadded 0 i.len i.bytes.items };
+}
+
+// Copies as many bytes as there are and fit.
+fn copy_front(from: &[u8], into: &mut [u8]) -> usize
+    ensures count { result ≡ min (length into.old) (length from.now) }
+    ensures bytes { take result into.new ≡ take result from.now }
+{
+    let count = into.len().min(from.len());
+    into[..count].copy_from_slice(&from[..count]);
+    count
 }
 
 impl Image {
@@ -77,15 +87,11 @@ impl Image {
         ensures count { result ≡ min (length into.old) (length self.now.bytes - at) }
         ensures bytes { take result into.new ≡ take result (drop at self.now.bytes) }
     {
-        if at >= self.len as u64 {
+        let bytes = self.as_slice();
+        if at >= bytes.len() as u64 {
             return 0;
         }
-        let at = at as usize;
-        let count = into.len().min(self.len - at);
-        for i in 0..count {
-            into[i] = self.bytes[at + i];
-        }
-        count
+        copy_front(&bytes[at as usize..], into)
     }
 
     /// Writes bytes at a place, the gap behind the end filled with zero bytes.
@@ -93,9 +99,7 @@ impl Image {
         requires { at + length from.now ≤ self.old.room }
         ensures { self.new ≡ record self.old { bytes = written 0 at from.now self.old.bytes } }
     {
-        for i in 0..from.len() {
-            self.bytes[at + i] = from[i];
-        }
+        copy_to(self.bytes.as_mut_slice(), at, from);
         self.len = self.len.max(at + from.len());
     }
 
@@ -104,9 +108,7 @@ impl Image {
         requires { at + count ≤ self.old.room }
         ensures { self.new ≡ record self.old { bytes = written 0 at (replicate count byte) self.old.bytes } }
     {
-        for i in 0..count {
-            self.bytes[at + i] = byte;
-        }
+        fill_from(self.bytes.as_mut_slice(), at, count, byte);
         self.len = self.len.max(at + count);
     }
 
