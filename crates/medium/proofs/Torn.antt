@@ -4,7 +4,7 @@ use Rattle.std.proofs.lemmas.List.{length-replicate, get_or-replicate}
 use Rattle.medium_model.specs.Content.{Content, FailedWrite, after_write, written}
 use Rattle.medium_model.specs.PowerLoss.{IsImage}
 use Rattle.medium_model.specs.State.{TornWrite}
-use Rattle.medium.specs.Buffer.{Buffer, DirtyMarks, Held, IsTornImage, FitTogether, content_of}
+use Rattle.medium.specs.Buffer.{Buffer, DirtyMarks, ReadyContent, IsTornImage, FitTogether, content_of}
 use Rattle.medium.specs.Memory.{Tears, TearsHeld, IsBench, after_torn, torn_write}
 use Rattle.medium_model.specs.declared.bench.Tear.{Tear}
 use Rattle.medium_model.specs.declared.bench.Tear.TheVariants.{Half}
@@ -103,7 +103,7 @@ module _ (reads durable : Buffer) (dirty : DirtyMarks) (ready at n : ℕ)
   }
 
 -- A write that the bench's power loss did not reach, or one that it may have torn, keeps its images fitting.
-module _ (held new_held : Held) (images : TearsHeld) (tear : Tear) (power : Power) (at : ℕ) (bytes : List ℕ)
+module _ (held new_held : ReadyContent) (images : TearsHeld) (tear : Tear) (power : Power) (at : ℕ) (bytes : List ℕ)
     (bench : IsBench held images tear power)
     (durable : new_held.content.durable ≡ held.content.durable)
     (dirty : new_held.content.dirty ≡ written false at (replicate (length bytes) true) held.content.dirty)

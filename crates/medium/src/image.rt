@@ -7,7 +7,7 @@ use avl_values::NoMemory;
 use std::alloc::Global;
 use std::marker::Model;
 
-/// The bytes of an image in memory, with room behind its end.
+/// The bytes of an image in memory, with room after its end.
 #[derive(Drop)]
 pub struct Image {
     bytes: Vec<u8>,
@@ -46,7 +46,7 @@ impl Image {
         }
     }
 
-    /// These bytes, and no room behind them.
+    /// These bytes, and no room after them.
     pub fn from_vec(bytes: Vec<u8>) -> Image
         ensures { result ≡ record { bytes = bytes.items; room = length bytes.items } }
     {
@@ -94,7 +94,7 @@ impl Image {
         copy_front(&bytes[at as usize..], into)
     }
 
-    /// Writes bytes at a place, the gap behind the end filled with zero bytes.
+    /// Writes bytes at a place, the gap after the end filled with zero bytes.
     pub fn put(&mut self, at: usize, from: &[u8])
         requires { at + length from.now ≤ self.old.room }
         ensures { self.new ≡ record self.old { bytes = written 0 at from.now self.old.bytes } }

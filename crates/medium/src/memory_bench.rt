@@ -88,6 +88,7 @@ impl MemoryBench {
         ensures most { self.new.ready ≤ 2 ^ 62 }
         ensures rest { self.new ≡ record self.old { ready = self.new.ready } }
     {
+        // The proof takes from it that it is ready up to 2^62 at most.
         let _ready = self.content.ready();
         self.tears.grow(to as usize)?;
         self.content.reserve(to)?;
@@ -119,6 +120,7 @@ impl Medium for MemoryBench {
         ensures lost { self.old.power ≡ Power.Lost → IsErrOf result ReserveError.Failed }
     {
         if self.ran_out() || to > MAX_PLACE {
+            // The proof takes from it that it is ready up to 2^62 at most.
             let _ready = self.content.ready();
             self.faults = self.faults.saturating_add(1);
             return Err(ReserveError::Failed);

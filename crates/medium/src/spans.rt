@@ -8,7 +8,7 @@ use arrayvec::ArrayVec;
 pub struct Span {
     /// The first place.
     pub first: usize,
-    /// The place behind the last one.
+    /// The place after the last one.
     pub end: usize,
 }
 
@@ -27,6 +27,7 @@ fn widen(spans: &mut Spans, span: Span)
     requires { 0 < length spans.old.items }
     ensures { HasMore span spans.old.items spans.new.items }
 {
+    // The proof takes from it that there are at most 256.
     let _most = spans.len();
     if let Some(last) = spans.pop() {
         spans.push(Span {

@@ -11,7 +11,7 @@ fn a_medium_of_three_bytes_has_length_three(rt: HostRuntime) -> Result<(), Fail>
     Ok(())
 }
 
-// Four bytes 9 are durable, and the power loss meets a write of 1, 2, 3, 4 at place 6, behind the end.
+// Four bytes 9 are durable, and the power loss meets a write of 1, 2, 3, 4 at place 6, after the end.
 #[test]
 fn each_tear_leaves_its_image(rt: HostRuntime) -> Result<(), Fail> {
     let rows: [(Tear, &[u8]); 5] = [
@@ -35,7 +35,7 @@ fn each_tear_leaves_its_image(rt: HostRuntime) -> Result<(), Fail> {
     Ok(())
 }
 
-// A real file keeps what was written over a reopening, and a gap behind its end reads as zero bytes.
+// A real file keeps what was written over a reopening, and a gap after its end reads as zero bytes.
 #[test]
 fn a_file_keeps_what_was_written(rt: HostRuntime) -> Result<(), Fail> {
     let path = "medium_test_file";
