@@ -4,7 +4,7 @@ ghost use Rattle.record_layout.specs.Body.{IsBody};
 ghost use Rattle.record_layout.specs.declared.head.PacketHead.{PacketHead};
 
 use arrayvec::ArrayVec;
-use avl_values::Imei;
+use avl_values::{Imei, NoMemory};
 
 /// What is said of a packet that was admitted.
 #[derive(Debug, Drop)]
@@ -30,6 +30,16 @@ pub enum AdmitFault {
         /// How often the medium has failed, this call included.
         faults: u64,
     },
+}
+
+impl From<NoMemory> for AdmitFault {
+    ghost use Rattle.shelf.specs.declared.receipt.AdmitFault.TheVariants as fault;
+
+    ghost from_gives = { λ _ e. e ≡ fault.NoMemory };
+
+    fn from(_: NoMemory) -> Self {
+        AdmitFault::NoMemory
+    }
 }
 
 /// Where packets are admitted, one call after the other.
