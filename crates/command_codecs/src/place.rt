@@ -47,6 +47,7 @@ impl Place for CommandPlace {
 
     ghost leaves = { place_leaves };
 
+    #[inline(always)]
     fn left(self) -> Left<()> {
         self.at.left()
     }

@@ -64,6 +64,7 @@ impl<C: Cursor> Machine<C> {
         self.take(byte)
     }
 
+    #[inline(always)]
     fn take(&mut self, byte: u8) -> Scan<C::Head>
         requires { IsTaking C.left_of C.stands self.old }
         ensures answers { (total : ℕ) → (rows : Rows C.Value) → (bytes : List ℕ) → HasTaken C.left_of C.stands self.old total rows bytes → IsVerdict C.says total result (judge (body total rows) 0 (bytes ++ byte ∷ [])) }
@@ -92,6 +93,7 @@ impl<C: Cursor> Machine<C> {
     }
 
     /// The machine at a field, past one of no bytes.
+    #[inline(always)]
     fn at_field(total: u32, place: u32, cursor: C) -> Result<Machine<C>, Scan<C::Head>>
         requires { place ≤ total }
         ensures { Enters C.left_of C.says C.stands total place cursor result }
@@ -111,6 +113,7 @@ impl<C: Cursor> Machine<C> {
     }
 
     /// The machine at a field of at least one byte, or the verdict at the end of the body or of its length.
+    #[inline(always)]
     fn at_some_field(total: u32, place: u32, cursor: C) -> Result<Machine<C>, Scan<C::Head>>
         requires { place ≤ total }
         ensures { (C.left_of cursor ≡ left.Field 0 → ⊥) → Enters C.left_of C.says C.stands total place cursor result }

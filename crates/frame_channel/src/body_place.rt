@@ -42,6 +42,7 @@ impl Place for BodyPlace {
 
     ghost leaves = { body_leaves };
 
+    #[inline(always)]
     fn left(self) -> Left<BodyKind> {
         match self {
             BodyPlace::Codec(_, _) => Left::Field(1),
@@ -83,6 +84,7 @@ fn after_codec(way: Way, total: u32, value: u64) -> Result<BodyPlace, FaultKind>
 }
 
 impl Cursor for BodyPlace {
+    #[inline(always)]
     fn next(self, value: u64) -> Result<BodyPlace, FaultKind> {
         match self {
             BodyPlace::Codec(way, total) => after_codec(way, total, value),

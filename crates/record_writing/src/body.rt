@@ -6,6 +6,7 @@ ghost use Rattle.record_writing.specs.Room.{HasRoomFor};
 
 use arrayvec::ArrayVec;
 use avl_values::Codec;
+use layout::put_all;
 use std::marker::Model;
 
 /// A tracker's data body while it is made, seen as its codec and its records so far (Teltonika, Data Sending Protocols, data
@@ -69,7 +70,7 @@ impl Body {
         let mut out = ArrayVec::new();
         out.push(self.codec.id());
         out.push(self.count);
-        let _added = out.try_extend_from_slice(self.bytes.as_slice());
+        put_all(&mut out, self.bytes.as_slice());
         out.push(self.count);
         out
     }
