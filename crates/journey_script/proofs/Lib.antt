@@ -1,0 +1,5 @@
+pub mod ConnectionLemmas
+pub mod FieldLemmas
+pub mod ReadingLemmas
+pub mod StandingLemmas
+pub mod Values
