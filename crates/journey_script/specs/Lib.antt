@@ -1,4 +1,5 @@
 pub mod Compact
+pub mod Drive
 pub mod Faults
 pub mod FieldsLeft
 pub mod Grammar
@@ -9,3 +10,5 @@ pub mod Standing
 pub mod Table
 pub mod Taking
 pub mod Words
+pub mod Writing
+pub mod WrittenText

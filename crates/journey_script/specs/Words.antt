@@ -24,8 +24,11 @@ word_name LineWord.Close = codes "close"
 word_name LineWord.Power = codes "power"
 word_name LineWord.Fuse = codes "fuse"
 
+abbrev pub line_words : List LineWord
+line_words = LineWord.Fix ∷ LineWord.Round ∷ LineWord.Late ∷ LineWord.Close ∷ LineWord.Drain ∷ LineWord.Power ∷ LineWord.Fuse ∷ LineWord.Device ∷ LineWord.Io ∷ []
+
 unfoldable pub line_word : List ℕ → Option LineWord
-line_word text = named word_name (LineWord.Fix ∷ LineWord.Round ∷ LineWord.Late ∷ LineWord.Close ∷ LineWord.Drain ∷ LineWord.Power ∷ LineWord.Fuse ∷ LineWord.Device ∷ LineWord.Io ∷ []) text
+line_word text = named word_name line_words text
 
 abbrev pub codec_name : Codec → List ℕ
 codec_name C8 = codes "8"

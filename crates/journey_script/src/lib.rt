@@ -6,6 +6,7 @@ mod choice;
 mod compact;
 mod connections;
 mod devices;
+mod drive;
 mod fault;
 mod field;
 mod fields;
@@ -13,15 +14,19 @@ mod fix_line;
 mod form;
 mod line;
 mod number;
+mod pieces;
 mod reader;
 mod script;
 mod standing;
 mod word;
+mod writer;
 
+pub use drive::drive_fault;
 pub use fault::{ReadFault, ScriptFault};
 pub use reader::read_script;
 pub use script::Script;
 pub use trial_model::{Fix, IoSetting, Operand, Order, ScriptLine, Tear, Who};
+pub use writer::write_script;
 
 #[cfg(test)]
 mod tests;

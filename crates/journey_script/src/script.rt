@@ -37,6 +37,13 @@ impl Script {
         Script { lines }
     }
 
+    pub(crate) fn lines(&self) -> &[NumberedLine]
+        ensures lines { script_in result.now ≡ self.now }
+        ensures kept { IsKept result.now }
+    {
+        self.lines.as_slice()
+    }
+
     /// The number of its lines.
     pub fn len(&self) -> usize
         ensures len { result ≡ length self.now }

@@ -1,4 +1,4 @@
-use crate::{ScriptLine, read_script};
+use crate::{ScriptLine, drive_fault, read_script, write_script};
 use avl_values::NoMemory;
 use std::alloc::Global;
 use std::test::Fail;
@@ -289,6 +289,59 @@ fn a_fix_line_as_it_was_written(rt: HostRuntime) -> Result<(), Fail> {
             assert_eq!(rt; fix.values.as_slice(), [9].as_slice());
         }
         _ => assert!(rt; false),
+    }
+    Ok(())
+}
+
+/// What is written of a text's script.
+fn written(alloc: Global, text: &str) -> Result<String, Fail> {
+    let script = read_script(alloc, text.as_bytes())?;
+    let written = write_script(alloc, &script)?;
+    Ok(String::from_utf8_lossy(alloc, written.as_slice())?)
+}
+
+#[test]
+fn writes_what_was_read(rt: HostRuntime) -> Result<(), Fail> {
+    let fixes =
+        "fix 356307042441013 1560161086000 0 0 0 0 0 0 0\nfix 356307042441013 1560161087000 -1 -2147483648 -3 4 5 6 7";
+    let text = format!(in rt.alloc(); "{DEVICE}{fixes}\nround 356307042441013 7 - -")?;
+    assert_eq!(rt; written(rt.alloc(), text.as_str())?.as_str(), text.as_str());
+    let spaced = "\n# one\nfuse server 1 zero\r\n#\n\npower server\n\n";
+    assert_eq!(rt;
+        written(rt.alloc(), spaced)?.as_str(),
+        "\n\nfuse server 1 zero\n\n\npower server"
+    );
+    assert_eq!(rt; written(rt.alloc(), "\n#")?.as_str(), "");
+    Ok(())
+}
+
+/// The line and the number of the fault that `drive` finds, or 0.
+fn driven(alloc: Global, text: &str) -> Result<(u32, u8), Fail> {
+    let text = format!(in alloc; "{DEVICE}{text}")?;
+    let script = read_script(alloc, text.as_bytes())?;
+    Ok(match drive_fault(&script) {
+        Some((line, fault)) => (line, fault.number()),
+        None => (0, 0),
+    })
+}
+
+#[test]
+fn lines_that_drive_refuses(rt: HostRuntime) -> Result<(), Fail> {
+    for (text, wanted) in [
+        (
+            "round 356307042441013 1 - -\ndrain 356307042441013 1\npower 356307042441013",
+            (0, 0),
+        ),
+        ("round 356307042441013 1 - -\n\nclose 1\nlate 1 1", (4, 16)),
+        ("round 356307042441013 1 - 1", (2, 16)),
+        ("power server\nfuse server 1 new", (2, 16)),
+        ("fuse 356307042441013 1 new", (2, 16)),
+        (
+            "device 356307042441014 8 1 oldest 0 0 0 0 stranger",
+            (2, 16),
+        ),
+    ] {
+        assert_eq!(rt; driven(rt.alloc(), text)?, wanted);
     }
     Ok(())
 }
