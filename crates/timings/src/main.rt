@@ -9,13 +9,14 @@ mod codec_work;
 mod frame_work;
 mod line_work;
 mod ring_work;
+mod script_work;
 
 use anyhow::Context;
 use std::alloc::Global;
 use std::env;
 
 /// A little of everything.
-const SAMPLES: [(&str, [u64; 3]); 10] = [
+const SAMPLES: [(&str, [u64; 3]); 11] = [
     ("codecs", [112, 1, 0]),
     ("fields", [112, 1, 0]),
     ("frames", [2, 1460, 0]),
@@ -26,6 +27,7 @@ const SAMPLES: [(&str, [u64; 3]); 10] = [
     ("rounds", [40, 0, 0]),
     ("overwrite", [4, 0, 0]),
     ("medium", [4, 0, 0]),
+    ("scripts", [0, 100_000, 1]),
 ];
 
 /// Does what the word says, and gives its two numbers; None for another word, or out of memory.
@@ -38,6 +40,7 @@ fn work(alloc: Global, what: &str, numbers: [u64; 3]) -> Option<(u64, u64)> {
         "lines" => line_work::write_lines(alloc, first, second),
         "acquisition" => acquisition_work::acquire(first),
         "archive" => archive_work::archive(alloc, first, second, third),
+        "scripts" => script_work::read_scripts(alloc, first, second, third),
         "medium" => ring_work::write_medium(alloc, first),
         _ => ring_work::work(alloc, what, first),
     }

@@ -1,0 +1,9 @@
+pub mod ConnectionLemmas
+pub mod FieldLemmas
+pub mod FieldSpelling
+pub mod LineSpelling
+pub mod ReadingLemmas
+pub mod StandingLemmas
+pub mod Values
+pub mod WritingLemmas
+pub mod WrittenLemmas
