@@ -42,10 +42,10 @@ module _ (o : Shelved) (seats id : ℕ) (v : View) (alone : IsAlone Idle v) (all
   nobody-holds i u there = dite (ℕ_discrete i id)
       (λ (e : i ≡ id). not-holding u.stage (ap (λ (x : View). x.stage) (some-injective u v (sym there ∙ ap (get_elem? s.views) e ∙ at)) ∙ alone.at))
       (λ (ne : i ≢ id). λ holds.
-          let none = other-none i u ne there in
-          let enough = (h.each i u there).enough in
-          let busy_is : busy u ≡ 1 = ap busy_at holds in
-          omega arith)
+      let none = other-none i u ne there in
+      let enough = (h.each i u there).enough in
+      let busy_is : busy u ≡ 1 = ap busy_at holds in
+      omega arith)
 
   owns-all : (k : ℕ) (e : Entry) → get_elem? h.log k ≡ some e → 0 < times e.seat v.numbers
   owns-all k e there =
@@ -64,6 +64,7 @@ module _ (o : Shelved) (seats id : ℕ) (v : View) (alone : IsAlone Idle v) (all
           let quiet = (h.each id v at).mine.quiet (length v.seen + 0) e (omega arith) there in
           let own = owns-all (length v.seen + 0) e there in
           omega arith
+
       split : (more : List Entry) → h.log ≡ v.seen ++ more → h.log ≡ v.seen
       split [] is = is ∙ append-nil v.seen
       split (e ∷ more) is = absurd (none-more e more is)

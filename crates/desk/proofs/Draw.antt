@@ -27,34 +27,39 @@ draws o seats slots id m alone s h size at low =
     let above = share-above Idle v alone in
     let equal : share w ≡ share v = ap length same in
     let round : ((length log + total busy s.views) % 2 ^ 64 + 1) % 2 ^ 64 ≡ (length log + total busy (set s.views id w)) % 2 ^ 64 = omega arith in
-    let kept = has-kept s.views id v w at same in
-    (w, keeps, tt, record {
-      log = log;
-      legal = h.legal;
-      words = ap (λ (ws : List ℕ). slice_set ws 1 ((slice_index ws 1 + 1) % 2 ^ 64)) h.words ∙ (λ i. (length log % 2 ^ 64) ∷ round i ∷ []);
-      many = share-kept s.views id v w at same ∙ h.many;
-      few = h.few;
-      once = λ k. (let e = kept k in let one = h.once k in omega arith);
-      owned = λ k e there. (let same_total = kept e.seat in let own = h.owned k e there in omega arith);
-      each = each_set (FitsView o log (total busy (set s.views id w))) s.views id w
-          (λ j u ne there. let g = h.each j u there in record {
-            opening = g.opening;
-            mine = g.mine;
-            others = g.others;
-            enough = g.enough;
-            stage = stage-more log u.seen (total busy s.views) (total busy (set s.views id w)) u.ticket u.stage (omega arith) g.stage;
-          })
-          (record {
-            opening = λ pos. f.opening above;
-            mine = f.mine;
-            others = knows-nothing log;
-            enough = omega arith;
-            stage = (omega arith, omega arith);
-          });
-      apart = apart-set s.views id w h.apart (λ j u ne there bw bu e.
-        let one = total_at busy s.views j u there in
-        let out = ticket-out log u.seen (total busy s.views) u.ticket u.stage bu (omega arith) (h.each j u there).stage in
-        let high = out.1 in
-        omega arith);
-      home = λ nobody. h.home (nobody-back s.views id v w at (not-holding v.stage alone.at) nobody);
-    }, record { waits = refl; ticket = sym (ap (λ (ws : List ℕ). slice_index ws 1) h.words) })
+    let kept = has-kept s.views id v w at same in (
+      w,
+      keeps,
+      tt,
+      record {
+        log = log;
+        legal = h.legal;
+        words = ap (λ (ws : List ℕ). slice_set ws 1 ((slice_index ws 1 + 1) % 2 ^ 64)) h.words ∙ (λ i. (length log % 2 ^ 64) ∷ round i ∷ []);
+        many = share-kept s.views id v w at same ∙ h.many;
+        few = h.few;
+        once = λ k. (let e = kept k in let one = h.once k in omega arith);
+        owned = λ k e there. (let same_total = kept e.seat in let own = h.owned k e there in omega arith);
+        each = each_set (FitsView o log (total busy (set s.views id w))) s.views id w
+            (λ j u ne there. let g = h.each j u there in record {
+              opening = g.opening;
+              mine = g.mine;
+              others = g.others;
+              enough = g.enough;
+              stage = stage-more log u.seen (total busy s.views) (total busy (set s.views id w)) u.ticket u.stage (omega arith) g.stage;
+            })
+            (record {
+              opening = λ pos. f.opening above;
+              mine = f.mine;
+              others = knows-nothing log;
+              enough = omega arith;
+              stage = (omega arith, omega arith);
+            });
+        apart = apart-set s.views id w h.apart (λ j u ne there bw bu e.
+            let one = total_at busy s.views j u there in
+            let out = ticket-out log u.seen (total busy s.views) u.ticket u.stage bu (omega arith) (h.each j u there).stage in
+            let high = out.1 in
+            omega arith);
+        home = λ nobody. h.home (nobody-back s.views id v w at (not-holding v.stage alone.at) nobody);
+      },
+      record { waits = refl; ticket = sym (ap (λ (ws : List ℕ). slice_index ws 1) h.words) },
+    )

@@ -75,7 +75,7 @@ pub calls_by-known : (log seen : List Entry) (ns : List ℕ) → Knows log seen 
 calls_by-known log seen ns knows =
     let more = knows.begins.0 in
     let none : calls_by ns more ≡ [] = calls_by-none ns more (λ k e at.
-        knows.quiet (length seen + k) e (omega arith) (ap (λ l. get_elem? l (length seen + k)) knows.begins.1 ∙ at-behind seen more k ∙ at)) in
+    knows.quiet (length seen + k) e (omega arith) (ap (λ l. get_elem? l (length seen + k)) knows.begins.1 ∙ at-behind seen more k ∙ at)) in
     ap (calls_by ns) knows.begins.1 ∙ calls_by-append ns seen more ∙ ap (λ l. calls_by ns seen ++ l) none ∙ append-nil (calls_by ns seen)
 
 -- Two beginnings of one history: the longer begins with the shorter.

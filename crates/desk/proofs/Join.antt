@@ -34,23 +34,23 @@ joins o seats id v other w alone alone_other s h at apart there =
     let b : View = both_views v w in
     let views : List View = set (set s.views id b) other spent in
     let was : get_elem? s.views other ≡ some w = ⊎_elim
-        (λ (x : (other ≡ id) × (b ≡ w)). absurd (apart x.0))
-        (λ (x : (other ≢ id) × (get_elem? s.views other ≡ some w)). x.1)
-        (at_set s.views id other b w there) in
+    (λ (x : (other ≡ id) × (b ≡ w)). absurd (apart x.0))
+    (λ (x : (other ≢ id) × (get_elem? s.views other ≡ some w)). x.1)
+    (at_set s.views id other b w there) in
     let f = h.each id v at in
     let g = h.each other w was in
     let whole = numbers-alone Idle v alone in
     let whole_other = numbers-alone Idle w alone_other in
     let shares : share b + share spent ≡ share v + share w =
-        (let x : share v ≡ length v.numbers + 0 = ap length whole ∙ length-append v.numbers [] in
-        let y : share w ≡ length w.numbers + 0 = ap length whole_other ∙ length-append w.numbers [] in
-        let z = length-append v.numbers w.numbers in
-        omega arith) in
+    (let x : share v ≡ length v.numbers + 0 = ap length whole ∙ length-append v.numbers [] in
+    let y : share w ≡ length w.numbers + 0 = ap length whole_other ∙ length-append w.numbers [] in
+    let z = length-append v.numbers w.numbers in
+    omega arith) in
     let parts : (k : ℕ) → has k b + has k spent ≡ has k v + has k w = λ k.
-        (let x : has k v ≡ times k v.numbers + 0 = ap (times k) whole ∙ times-append k v.numbers [] in
-        let y : has k w ≡ times k w.numbers + 0 = ap (times k) whole_other ∙ times-append k w.numbers [] in
-        let z = times-append k v.numbers w.numbers in
-        omega arith) in
+    (let x : has k v ≡ times k v.numbers + 0 = ap (times k) whole ∙ times-append k v.numbers [] in
+    let y : has k w ≡ times k w.numbers + 0 = ap (times k) whole_other ∙ times-append k w.numbers [] in
+    let z = times-append k v.numbers w.numbers in
+    omega arith) in
     let idle : busy v ≡ 0 = ap busy_at alone.at in
     let idle_other : busy w ≡ 0 = ap busy_at alone_other.at in
     let tickets : total busy views ≡ total busy s.views = total-both busy s.views id other v w b spent at there (omega arith) in
@@ -65,21 +65,21 @@ joins o seats id v other w alone alone_other s h at apart there =
       owned = λ k e there. (let same = numbers_same e.seat in let own = h.owned k e there in omega arith);
       each = each_set (FitsView o log (total busy views)) (set s.views id b) other spent
           (λ i u ne at_u. each_set (FitsView o log (total busy views)) s.views id b
-              (λ j x nx at_x. let k = h.each j x at_x in record {
-                opening = k.opening;
-                mine = k.mine;
-                others = k.others;
-                enough = k.enough;
-                stage = stage-more log x.seen (total busy s.views) (total busy views) x.ticket x.stage (omega arith) k.stage;
-              })
-              (record {
-                opening = λ pos. f.opening (share-above Idle v alone);
-                mine = f.mine;
-                others = g.mine;
-                enough = omega arith;
-                stage = tt;
-              })
-              i u at_u)
+          (λ j x nx at_x. let k = h.each j x at_x in record {
+            opening = k.opening;
+            mine = k.mine;
+            others = k.others;
+            enough = k.enough;
+            stage = stage-more log x.seen (total busy s.views) (total busy views) x.ticket x.stage (omega arith) k.stage;
+          })
+          (record {
+            opening = λ pos. f.opening (share-above Idle v alone);
+            mine = f.mine;
+            others = g.mine;
+            enough = omega arith;
+            stage = tt;
+          })
+          i u at_u)
           (record {
             opening = λ pos. absurd (omega (arith, pos));
             mine = knows-nothing log;
@@ -91,7 +91,7 @@ joins o seats id v other w alone alone_other s h at apart there =
           (apart-set s.views id b h.apart (λ j u ne at_u bw bu e. absurd (omega (arith, bw))))
           (λ j u ne at_u bw bu e. absurd (omega (arith, bw)));
       home = λ nobody. h.home (nobody-back s.views id v b at (not-holding v.stage alone.at)
-        (nobody-back (set s.views id b) other w spent there (not-holding w.stage alone_other.at) nobody));
+          (nobody-back (set s.views id b) other w spent there (not-holding w.stage alone_other.at) nobody));
     }
 
 module _ (o : Shelved) (seats id : ℕ) (m : Place) (idle : m.0.stage ≡ Idle) (numbered : 0 < length m.0.numbers)
@@ -107,33 +107,38 @@ module _ (o : Shelved) (seats id : ℕ) (m : Place) (idle : m.0.stage ≡ Idle) 
       let pos : 0 < share v = (let x = length-append v.numbers v.other_numbers in omega arith) in
       let busy_is : busy v ≡ 0 = ap busy_at idle in
       let tickets : total busy (set s.views id w) ≡ total busy s.views = (let t = total_set busy s.views id v w at in omega arith) in
-      let kept = has-kept s.views id v w at same in
-      (w, keeps, tt, record {
-        log = log;
-        legal = h.legal;
-        words = ap (λ (ws : List ℕ). slice_set ws 0 (slice_index ws 0)) h.words ∙ (λ i. (length log % 2 ^ 64) ∷ ((length log + sym tickets i) % 2 ^ 64) ∷ []);
-        many = share-kept s.views id v w at same ∙ h.many;
-        few = h.few;
-        once = λ k. (let e = kept k in let one = h.once k in omega arith);
-        owned = λ k e there. (let same_total = kept e.seat in let own = h.owned k e there in omega arith);
-        each = each_set (FitsView o log (total busy (set s.views id w))) s.views id w
-            (λ j u ne there. let g = h.each j u there in record {
-              opening = g.opening;
-              mine = g.mine;
-              others = g.others;
-              enough = g.enough;
-              stage = stage-more log u.seen (total busy s.views) (total busy (set s.views id w)) u.ticket u.stage (omega arith) g.stage;
-            })
-            (record {
-              opening = λ _. f.opening pos;
-              mine = knows;
-              others = knows-nothing log;
-              enough = omega arith;
-              stage = tt;
-            });
-        apart = apart-set s.views id w h.apart (λ j u ne there bw bu e. absurd (omega (arith, bw)));
-        home = λ nobody. h.home (nobody-back s.views id v w at (not-holding v.stage idle) nobody);
-      }, record { rests = refl; joined = joined })
+      let kept = has-kept s.views id v w at same in (
+        w,
+        keeps,
+        tt,
+        record {
+          log = log;
+          legal = h.legal;
+          words = ap (λ (ws : List ℕ). slice_set ws 0 (slice_index ws 0)) h.words ∙ (λ i. (length log % 2 ^ 64) ∷ ((length log + sym tickets i) % 2 ^ 64) ∷ []);
+          many = share-kept s.views id v w at same ∙ h.many;
+          few = h.few;
+          once = λ k. (let e = kept k in let one = h.once k in omega arith);
+          owned = λ k e there. (let same_total = kept e.seat in let own = h.owned k e there in omega arith);
+          each = each_set (FitsView o log (total busy (set s.views id w))) s.views id w
+              (λ j u ne there. let g = h.each j u there in record {
+                opening = g.opening;
+                mine = g.mine;
+                others = g.others;
+                enough = g.enough;
+                stage = stage-more log u.seen (total busy s.views) (total busy (set s.views id w)) u.ticket u.stage (omega arith) g.stage;
+              })
+              (record {
+                opening = λ _. f.opening pos;
+                mine = knows;
+                others = knows-nothing log;
+                enough = omega arith;
+                stage = tt;
+              });
+          apart = apart-set s.views id w h.apart (λ j u ne there bw bu e. absurd (omega (arith, bw)));
+          home = λ nobody. h.home (nobody-back s.views id v w at (not-holding v.stage idle) nobody);
+        },
+        record { rests = refl; joined = joined },
+      )
 
 -- The longer of two histories is known under both seats' numbers.
 module _ (log a b : List Entry) (ns ms : List ℕ) (one : Knows log a ns) (other : Knows log b ms) where
@@ -161,11 +166,11 @@ settles o seats slots id m idle numbered s h size at low =
     let f = h.each id v at in
     dite (dec_le (length v.seen) (length v.other_seen))
     (λ (le : length v.seen ≤ length v.other_seen).
-        settled-on o seats id m idle numbered s h at v.other_seen
-            (longer-known h.log v.seen v.other_seen v.numbers v.other_numbers f.mine f.others v.other_seen f.others.begins le (omega arith))
-            (joined-on h.log v.seen v.other_seen v.numbers v.other_numbers f.mine f.others v.other_seen (inr refl) f.others.begins le (omega arith)))
+    settled-on o seats id m idle numbered s h at v.other_seen
+    (longer-known h.log v.seen v.other_seen v.numbers v.other_numbers f.mine f.others v.other_seen f.others.begins le (omega arith))
+    (joined-on h.log v.seen v.other_seen v.numbers v.other_numbers f.mine f.others v.other_seen (inr refl) f.others.begins le (omega arith)))
     (λ gt.
-        let ge : length v.other_seen ≤ length v.seen = omega (arith, gt) in
-        settled-on o seats id m idle numbered s h at v.seen
-            (longer-known h.log v.seen v.other_seen v.numbers v.other_numbers f.mine f.others v.seen f.mine.begins (omega arith) ge)
-            (joined-on h.log v.seen v.other_seen v.numbers v.other_numbers f.mine f.others v.seen (inl refl) f.mine.begins (omega arith) ge))
+    let ge : length v.other_seen ≤ length v.seen = omega (arith, gt) in
+    settled-on o seats id m idle numbered s h at v.seen
+    (longer-known h.log v.seen v.other_seen v.numbers v.other_numbers f.mine f.others v.seen f.mine.begins (omega arith) ge)
+    (joined-on h.log v.seen v.other_seen v.numbers v.other_numbers f.mine f.others v.seen (inl refl) f.mine.begins (omega arith) ge))

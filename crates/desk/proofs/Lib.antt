@@ -8,3 +8,6 @@ pub mod Split
 pub mod Join
 pub mod Start
 pub mod Close
+pub mod Shelves
+pub mod Turns
+pub mod Deal

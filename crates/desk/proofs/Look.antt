@@ -23,12 +23,12 @@ use Rattle.desk.proofs.Histories.{knows-nothing, knows-all, calls_by-known, stag
 nobody-else : (o : Shelved) (seats id : ℕ) (v : View) (s : State (Option ShelfView) View) (h : HasHistory o seats s) → get_elem? s.views id ≡ some v → v.stage ≡ Waiting → length h.log ≡ v.ticket → NobodyHolds s.views
 nobody-else o seats id v s h at waits turn i u there holds = dite (ℕ_discrete id i)
     (λ (e : id ≡ i).
-        let same : v ≡ u = some-injective v u (sym at ∙ ap (get_elem? s.views) e ∙ there) in
-        let never : Waiting ≡ Holding = sym waits ∙ ap (λ (x : View). x.stage) same ∙ holds in
-        absurd (cc))
+    let same : v ≡ u = some-injective v u (sym at ∙ ap (get_elem? s.views) e ∙ there) in
+    let never : Waiting ≡ Holding = sym waits ∙ ap (λ (x : View). x.stage) same ∙ holds in
+    absurd (cc))
     (λ (ne : id ≢ i).
-        let fits : FitsStage h.log (total busy s.views) u.seen u.ticket Holding = subst (λ (z : Stage). FitsStage h.log (total busy s.views) u.seen u.ticket z) holds (h.each i u there).stage in
-        absurd (h.apart id i v u at there ne (ap busy_at waits) (ap busy_at holds) (sym turn ∙ sym fits.0)))
+    let fits : FitsStage h.log (total busy s.views) u.seen u.ticket Holding = subst (λ (z : Stage). FitsStage h.log (total busy s.views) u.seen u.ticket z) holds (h.each i u there).stage in
+    absurd (h.apart id i v u at there ne (ap busy_at waits) (ap busy_at holds) (sym turn ∙ sym fits.0)))
 
 module _ (o : Shelved) (seats slots id : ℕ) (m : Place) (alone : IsAlone Waiting m.0) (bare : m.1 ≡ [])
     (s : State (Option ShelfView) View) (h : HasHistory o seats s) (at : get_elem? s.views id ≡ some m.0) where
@@ -55,44 +55,49 @@ module _ (o : Shelved) (seats slots id : ℕ) (m : Place) (alone : IsAlone Waiti
       let busy_is : busy v ≡ 1 = ap busy_at alone.at in
       let tickets : total busy (set s.views id w) ≡ total busy s.views = (let t = total_set busy s.views id v w at in omega arith) in
       let kept = has-kept s.views id v w at same in
-      let here = set_here s.views id w (at_within s.views id v at) in
-      (w, takes 0 (Some y), ap (λ (l : List (slot.Option (Option ShelfView))). get_elem? l 0) home.there, record {
-        log = log;
-        legal = h.legal;
-        words = ap (λ (ws : List ℕ). slice_set ws 0 (slice_index ws 0)) h.words ∙ (λ i. (length log % 2 ^ 64) ∷ ((length log + sym tickets i) % 2 ^ 64) ∷ []);
-        many = share-kept s.views id v w at same ∙ h.many;
-        few = h.few;
-        once = λ k. (let e = kept k in let one = h.once k in omega arith);
-        owned = λ k e there. (let same_total = kept e.seat in let own = h.owned k e there in omega arith);
-        each = each_set (FitsView o log (total busy (set s.views id w))) s.views id w
-            (λ j u ne there. let g = h.each j u there in record {
-              opening = g.opening;
-              mine = g.mine;
-              others = g.others;
-              enough = g.enough;
-              stage = stage-more log u.seen (total busy s.views) (total busy (set s.views id w)) u.ticket u.stage (omega arith) g.stage;
-            })
-            (record {
-              opening = λ pos. opening_is;
-              mine = knows-all log log v.numbers refl;
-              others = knows-nothing log;
-              enough = omega arith;
-              stage = (sym turn, refl);
-            });
-        apart = apart-set s.views id w h.apart (λ j u ne there bw bu. h.apart id j v u at there (λ e. ne (sym e)) busy_is bu);
-        home = λ nobody. absurd (nobody id w here refl);
-      }, record {
-        turn = λ _. record {
-          holds = refl;
-          begins = f.mine.begins;
-          legal = subst (λ (x : Shelved). IsLegalLog x log) (sym opening_is) h.legal;
-          mine = calls_by-known log v.seen v.numbers f.mine;
-          shelf = y;
-          took = ap (λ (c : List (ℕ × Option ShelfView)). (0, Some y) ∷ c) bare;
-          stands = subst (λ (x : Shelved). StandsAfter x log (front y)) (sym opening_is) home.stands;
-        };
-        wait = λ ne. absurd (ne found);
-      })
+      let here = set_here s.views id w (at_within s.views id v at) in (
+        w,
+        takes 0 (Some y),
+        ap (λ (l : List (slot.Option (Option ShelfView))). get_elem? l 0) home.there,
+        record {
+          log = log;
+          legal = h.legal;
+          words = ap (λ (ws : List ℕ). slice_set ws 0 (slice_index ws 0)) h.words ∙ (λ i. (length log % 2 ^ 64) ∷ ((length log + sym tickets i) % 2 ^ 64) ∷ []);
+          many = share-kept s.views id v w at same ∙ h.many;
+          few = h.few;
+          once = λ k. (let e = kept k in let one = h.once k in omega arith);
+          owned = λ k e there. (let same_total = kept e.seat in let own = h.owned k e there in omega arith);
+          each = each_set (FitsView o log (total busy (set s.views id w))) s.views id w
+              (λ j u ne there. let g = h.each j u there in record {
+                opening = g.opening;
+                mine = g.mine;
+                others = g.others;
+                enough = g.enough;
+                stage = stage-more log u.seen (total busy s.views) (total busy (set s.views id w)) u.ticket u.stage (omega arith) g.stage;
+              })
+              (record {
+                opening = λ pos. opening_is;
+                mine = knows-all log log v.numbers refl;
+                others = knows-nothing log;
+                enough = omega arith;
+                stage = (sym turn, refl);
+              });
+          apart = apart-set s.views id w h.apart (λ j u ne there bw bu. h.apart id j v u at there (λ e. ne (sym e)) busy_is bu);
+          home = λ nobody. absurd (nobody id w here refl);
+        },
+        record {
+          turn = λ _. record {
+            holds = refl;
+            begins = f.mine.begins;
+            legal = subst (λ (x : Shelved). IsLegalLog x log) (sym opening_is) h.legal;
+            mine = calls_by-known log v.seen v.numbers f.mine;
+            shelf = y;
+            took = ap (λ (c : List (ℕ × Option ShelfView)). (0, Some y) ∷ c) bare;
+            stands = subst (λ (x : Shelved). StandsAfter x log (front y)) (sym opening_is) home.stands;
+          };
+          wait = λ ne. absurd (ne found);
+        },
+      )
 
   it-is-not : slice_index s.words 0 ≢ m.0.ticket % 2 ^ 64 → (w : View) × (a : Act (Option ShelfView)) × Valid s.homes m.1 a × HasHistory o seats (stepped s 0 (slice_index s.words 0) id m.1 w a) × Looked m (slice_index s.words 0) (w, carried_after m.1 a)
   it-is-not ne =

@@ -54,23 +54,26 @@ publishes o seats slots id m e y single alone has_shelf own legal stands s h siz
     let long : length log ≡ length h.log + 1 = length-append h.log (e ∷ []) in
     let serving : (length h.log % 2 ^ 64 + 1) % 2 ^ 64 ≡ length log % 2 ^ 64 = omega arith in
     let ticket : (length h.log + total busy s.views) % 2 ^ 64 ≡ (length log + total busy (set s.views id w)) % 2 ^ 64 =
-        (let sum : length h.log + total busy s.views ≡ length log + total busy (set s.views id w) = omega arith in ap (λ n. n % 2 ^ 64) sum) in
-    let owns = has-own e v alone own in
-    (w, gives, tt, record {
-      log = log;
-      legal = subst (IsLegalLog o) seen_is legal;
-      words = ap (λ (ws : List ℕ). slice_set ws 0 ((slice_index ws 0 + 1) % 2 ^ 64)) h.words ∙ (λ i. serving i ∷ ticket i ∷ []);
-      many = share-kept s.views id v w at same ∙ h.many;
-      few = h.few;
-      once = λ k. (let same_total = kept k in let one = h.once k in omega arith);
-      owned = λ k x there. ⊎_elim
-          (λ (old : get_elem? h.log k ≡ some x). let same_total = kept x.seat in let has_one = h.owned k x old in omega arith)
-          (λ (new : e ≡ x).
-              let pos : 0 < total (has e.seat) (set s.views id w) = (let same_total = kept e.seat in let t = total_at (has e.seat) s.views id v at in omega arith) in
-              subst (λ (z : Entry). 0 < total (has z.seat) (set s.views id w)) new pos)
-          (at_snoc h.log e x k there);
-      each = each_set (FitsView o log (total busy (set s.views id w))) s.views id w
-          (λ j u ne there.
+    (let sum : length h.log + total busy s.views ≡ length log + total busy (set s.views id w) = omega arith in ap (λ n. n % 2 ^ 64) sum) in
+    let owns = has-own e v alone own in (
+      w,
+      gives,
+      tt,
+      record {
+        log = log;
+        legal = subst (IsLegalLog o) seen_is legal;
+        words = ap (λ (ws : List ℕ). slice_set ws 0 ((slice_index ws 0 + 1) % 2 ^ 64)) h.words ∙ (λ i. serving i ∷ ticket i ∷ []);
+        many = share-kept s.views id v w at same ∙ h.many;
+        few = h.few;
+        once = λ k. (let same_total = kept k in let one = h.once k in omega arith);
+        owned = λ k x there. ⊎_elim
+            (λ (old : get_elem? h.log k ≡ some x). let same_total = kept x.seat in let has_one = h.owned k x old in omega arith)
+            (λ (new : e ≡ x).
+            let pos : 0 < total (has e.seat) (set s.views id w) = (let same_total = kept e.seat in let t = total_at (has e.seat) s.views id v at in omega arith) in
+            subst (λ (z : Entry). 0 < total (has z.seat) (set s.views id w)) new pos)
+            (at_snoc h.log e x k there);
+        each = each_set (FitsView o log (total busy (set s.views id w))) s.views id w
+            (λ j u ne there.
             let g = h.each j u there in
             let none = no-other e s.views id j v u at there ne (h.once e.seat) owns in record {
               opening = g.opening;
@@ -80,17 +83,19 @@ publishes o seats slots id m e y single alone has_shelf own legal stands s h siz
               stage = stage-next h.log u.seen e (total busy s.views) (total busy (set s.views id w)) u.ticket u.stage fewer
                   (λ bu same_ticket. h.apart id j v u at there (λ x. ne (sym x)) busy_is bu (mine ∙ sym same_ticket)) g.stage;
             })
-          (record {
-            opening = λ pos. f.opening above;
-            mine = knows-all log (v.seen ++ e ∷ []) v.numbers seen_is;
-            others = knows-nothing log;
-            enough = omega arith;
-            stage = tt;
-          });
-      apart = apart-set s.views id w h.apart (λ j u ne there bw bu x. absurd (omega (arith, bw)));
-      home = λ nobody. record {
-        shelf = y;
-        there = ap (put_back s.homes) has_shelf ∙ one-home s.homes (some (Some y)) (size ∙ single);
-        stands = subst (λ (l : List Entry). StandsAfter o l (front y)) seen_is stands;
-      };
-    }, refl)
+            (record {
+              opening = λ pos. f.opening above;
+              mine = knows-all log (v.seen ++ e ∷ []) v.numbers seen_is;
+              others = knows-nothing log;
+              enough = omega arith;
+              stage = tt;
+            });
+        apart = apart-set s.views id w h.apart (λ j u ne there bw bu x. absurd (omega (arith, bw)));
+        home = λ nobody. record {
+          shelf = y;
+          there = ap (put_back s.homes) has_shelf ∙ one-home s.homes (some (Some y)) (size ∙ single);
+          stands = subst (λ (l : List Entry). StandsAfter o l (front y)) seen_is stands;
+        };
+      },
+      refl,
+    )

@@ -62,20 +62,20 @@ splits o seats id v alone s h at =
       owned = λ k e there. (let same = numbers_same e.seat in let own = h.owned k e there in omega arith);
       each = each_snoc (FitsView o log (total busy views)) (set s.views id l) r
           (each_set (FitsView o log (total busy views)) s.views id l
-              (λ j u ne there. let g = h.each j u there in record {
-                opening = g.opening;
-                mine = g.mine;
-                others = g.others;
-                enough = g.enough;
-                stage = stage-more log u.seen (total busy s.views) (total busy views) u.ticket u.stage (omega arith) g.stage;
-              })
-              (record {
-                opening = λ pos. opening_is;
-                mine = knows-fewer log v.seen v.numbers (rest_of v.numbers) (rest-fewer v.numbers) f.mine;
-                others = knows-nothing log;
-                enough = omega arith;
-                stage = tt;
-              }))
+          (λ j u ne there. let g = h.each j u there in record {
+            opening = g.opening;
+            mine = g.mine;
+            others = g.others;
+            enough = g.enough;
+            stage = stage-more log u.seen (total busy s.views) (total busy views) u.ticket u.stage (omega arith) g.stage;
+          })
+          (record {
+            opening = λ pos. opening_is;
+            mine = knows-fewer log v.seen v.numbers (rest_of v.numbers) (rest-fewer v.numbers) f.mine;
+            others = knows-nothing log;
+            enough = omega arith;
+            stage = tt;
+          }))
           (record {
             opening = λ pos. opening_is;
             mine = knows-fewer log v.seen v.numbers (first_of v.numbers) (first-fewer v.numbers) f.mine;

@@ -81,21 +81,21 @@ pub apart-set : (views : List View) (i : ℕ) (w : View) → TicketsDiffer views
 apart-set views i w old mine j k u x ju kx ne bu bx =
     ⊎_elim
     (λ (a : (j ≡ i) × (w ≡ u)). ⊎_elim
-        (λ (b : (k ≡ i) × (w ≡ x)). absurd (ne (a.0 ∙ sym b.0)))
-        (λ (b : (k ≢ i) × (get_elem? views k ≡ some x)). subst (λ (y : View). busy y ≡ 1 → y.ticket ≢ x.ticket) a.1 (λ bw. mine k x b.0 b.1 bw bx) bu)
-        (at_set views i k w x kx))
+    (λ (b : (k ≡ i) × (w ≡ x)). absurd (ne (a.0 ∙ sym b.0)))
+    (λ (b : (k ≢ i) × (get_elem? views k ≡ some x)). subst (λ (y : View). busy y ≡ 1 → y.ticket ≢ x.ticket) a.1 (λ bw. mine k x b.0 b.1 bw bx) bu)
+    (at_set views i k w x kx))
     (λ (a : (j ≢ i) × (get_elem? views j ≡ some u)). ⊎_elim
-        (λ (b : (k ≡ i) × (w ≡ x)). subst (λ (y : View). busy y ≡ 1 → u.ticket ≢ y.ticket) b.1 (λ bw e. mine j u a.0 a.1 bw bu (sym e)) bx)
-        (λ (b : (k ≢ i) × (get_elem? views k ≡ some x)). old j k u x a.1 b.1 ne bu bx)
-        (at_set views i k w x kx))
+    (λ (b : (k ≡ i) × (w ≡ x)). subst (λ (y : View). busy y ≡ 1 → u.ticket ≢ y.ticket) b.1 (λ bw e. mine j u a.0 a.1 bw bu (sym e)) bx)
+    (λ (b : (k ≢ i) × (get_elem? views k ≡ some x)). old j k u x a.1 b.1 ne bu bx)
+    (at_set views i k w x kx))
     (at_set views i j w u ju)
 
 pub apart-snoc : (views : List View) (w : View) → TicketsDiffer views → busy w ≡ 0 → TicketsDiffer (views ++ w ∷ [])
 apart-snoc views w old idle j k u x ju kx ne bu bx =
     ⊎_elim
     (λ (a : get_elem? views j ≡ some u). ⊎_elim
-        (λ (b : get_elem? views k ≡ some x). old j k u x a b ne bu bx)
-        (λ (b : w ≡ x). absurd (let e = ap busy b in omega arith))
-        (at_snoc views w x k kx))
+    (λ (b : get_elem? views k ≡ some x). old j k u x a b ne bu bx)
+    (λ (b : w ≡ x). absurd (let e = ap busy b in omega arith))
+    (at_snoc views w x k kx))
     (λ (a : w ≡ u). absurd (let e = ap busy a in omega arith))
     (at_snoc views w u j ju)

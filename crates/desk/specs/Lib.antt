@@ -3,3 +3,5 @@ pub mod Seen
 pub mod Rule
 pub mod Steps
 pub mod Refusals
+pub mod Desks
+pub mod Sessions

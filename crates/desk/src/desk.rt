@@ -19,7 +19,7 @@ mod split;
 mod take;
 mod turns;
 
-
+pub use session::DeskSeat;
 
 /// The word that says whose turn it is: how many calls had theirs, modulo 2^64.
 const SERVING: usize = 0;

@@ -6,4 +6,4 @@ mod desk;
 mod rule;
 mod view;
 
-pub use desk::{Desk, Seat};
+pub use desk::{Desk, DeskSeat, Seat};
