@@ -1,5 +1,5 @@
 -- Close: the seat with all numbers has seen the whole history, and the shelf is at home.
-use Rattle.std.proofs.Common.{◌≡◌, ◌≢◌, ◌⊎◌, ⊎_elim, ℕ, zero, suc, ◌+◌, ◌<◌, ◌≤◌, List, [], ◌∷◌, ◌++◌, length, refl, sym, ap, ◌∙◌, subst, arith}
+use Rattle.std.proofs.Common.{◌≡◌, ◌≢◌, ℕ, ◌+◌, ◌<◌, List, [], ◌∷◌, ◌++◌, length, refl, sym, ap, ◌∙◌, subst, arith}
 use Rattle.std.specs.Prelude.{Option, Some}
 use Rattle.std.proofs.lemmas.List.{append-nil}
 use mathlib.Core.Option.{some, some-injective}
@@ -8,11 +8,11 @@ use native.Mathlib.Decide.{ℕ_discrete}
 use lib.ListN.{get_elem?}
 use Rattle.atomic_table.specs.Table.{State, Final, Seen}
 use Rattle.shelf.specs.Admits.{Shelved}
-use Rattle.shelf.specs.Entries.{Entry, IsLegalLog, StandsAfter, StartsWith, times, calls_by}
+use Rattle.shelf.specs.Entries.{Entry, IsLegalLog, StandsAfter, times, calls_by}
 use Rattle.shelf.specs.Shelf.{ShelfView, front}
-use Rattle.desk.specs.Views.{Stage, View, IsAlone, all_numbers, total, busy_at, busy, share, has}
-use Rattle.desk.specs.Views.Stage.{Idle, Waiting, Holding}
-use Rattle.desk.specs.Rule.{Knows, HasHistory}
+use Rattle.desk.specs.Views.{View, IsAlone, all_numbers, busy_at, busy, share, has}
+use Rattle.desk.specs.Views.Stage.{Idle, Holding}
+use Rattle.desk.specs.Rule.{HasHistory}
 use Rattle.desk.proofs.Totals.{total_two, total_only}
 use Rattle.desk.proofs.Views.{times-append, share-alone, not-holding}
 use Rattle.desk.proofs.Histories.{at-behind, calls_by-all}

@@ -1,11 +1,11 @@
 -- The seats of a new desk, each with one number.
-use Rattle.std.proofs.Common.{◌≡◌, ◌⊎◌, inl, inr, ⊎_elim, ℕ, zero, suc, ◌+◌, ◌<◌, ◌≤◌, List, [], ◌∷◌, ◌++◌, length, slice_get, Some, None, refl, sym, ap, ◌∙◌, subst, arith}
+use Rattle.std.proofs.Common.{◌≡◌, ◌⊎◌, inl, inr, ⊎_elim, ℕ, zero, suc, ◌+◌, ◌<◌, List, [], ◌∷◌, ◌++◌, length, slice_get, Some, None, refl, sym, ap, ◌∙◌, subst, arith}
 use Rattle.medium_model.specs.declared.medium.Medium.{Ghosts}
 use Rattle.shelf.specs.Admits.{Shelved}
 use Rattle.shelf.specs.Entries.{counting}
 use Rattle.desk.specs.declared.desk.Desk.{Desk}
 use Rattle.desk.specs.declared.desk.Seat.{Seat}
-use Rattle.desk.specs.Views.{View, view, first_view, IsAlone}
+use Rattle.desk.specs.Views.{view, IsAlone}
 use Rattle.desk.specs.Views.Stage.{Idle}
 use Rattle.desk.specs.Steps.{Place, kept_half, given_half}
 use Rattle.desk.specs.Desks.{IsNewSeat, AreNewSeats}
@@ -68,8 +68,8 @@ module _ {M : Type 0} {d : Ghosts M} where
   seats-snoc desk seats seat were is k s at = ⊎_elim
       (λ (old : slice_get seats k ≡ Some s). were k s old)
       (λ (new : (k ≡ length seats) × (seat ≡ s)).
-          let P : ℕ × Seat M d → Type 0 = λ p. IsNewSeat desk p.0 p.1 in
-          subst P (λ i. (sym new.0 i, new.1 i)) is)
+      let P : ℕ × Seat M d → Type 0 = λ p. IsNewSeat desk p.0 p.1 in
+      subst P (λ i. (sym new.0 i, new.1 i)) is)
       (get-snoc seats seat s k at)
 
   pub seats-none : (desk : Desk M) (seats : List (Seat M d)) → seats ≡ [] → AreNewSeats desk seats

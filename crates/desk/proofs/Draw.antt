@@ -1,16 +1,13 @@
 -- Draw: the seat takes the next ticket, which keeps the rule.
-use Rattle.std.proofs.Common.{◌≡◌, ◌≢◌, ℕ, ◌+◌, ◌%◌, ◌^◌, ◌<◌, ◌≤◌, List, [], ◌∷◌, ◌++◌, length, set, refl, sym, ap, ◌∙◌, subst, arith}
-use Rattle.std.specs.Prelude.{slice_index, slice_set, Option}
-use mathlib.Core.Option.{some}
-use lib.ListN.{get_elem?}
-use Rattle.atomic_table.specs.Table.{State, Act, keeps, Me, Allows, stepped}
+use Rattle.std.proofs.Common.{◌≡◌, ℕ, ◌+◌, ◌%◌, ◌^◌, List, [], ◌∷◌, length, set, refl, sym, ap, ◌∙◌, arith}
+use Rattle.std.specs.Prelude.{slice_index, slice_set}
+use Rattle.atomic_table.specs.Table.{keeps, Allows}
 use Rattle.shelf.specs.Admits.{Shelved}
-use Rattle.shelf.specs.Shelf.{ShelfView}
-use Rattle.desk.specs.Views.{Stage, View, view, IsAlone, all_numbers, total, busy_at, busy, share, has}
-use Rattle.desk.specs.Views.Stage.{Idle, Waiting, Holding}
-use Rattle.desk.specs.Rule.{FitsView, FitsStage, NobodyHolds, HasHistory}
+use Rattle.desk.specs.Views.{View, view, IsAlone, all_numbers, total, busy_at, busy, share}
+use Rattle.desk.specs.Views.Stage.{Idle, Waiting}
+use Rattle.desk.specs.Rule.{FitsView, HasHistory}
 use Rattle.desk.specs.Steps.{Place, Drawn}
-use Rattle.desk.proofs.Totals.{total_set, total_at, total_within, each_set}
+use Rattle.desk.proofs.Totals.{total_set, total_at, each_set}
 use Rattle.desk.proofs.Views.{numbers-alone, share-above, share-kept, has-kept, nobody-back, apart-set, not-holding}
 use Rattle.desk.proofs.Histories.{knows-nothing, stage-more, ticket-out}
 

@@ -1,15 +1,14 @@
 -- What seats know of a history, as it grows.
-use Rattle.std.proofs.Common.{◌≡◌, ◌≢◌, ◌⊎◌, inl, inr, ⊎_elim, ℕ, zero, suc, ◌+◌, ◌<◌, ◌≤◌, List, [], ◌∷◌, ◌++◌, length, refl, sym, ap, ◌∙◌, subst, arith, append_assoc, length-append}
+use Rattle.std.proofs.Common.{◌≡◌, ◌≢◌, ⊎_elim, ℕ, zero, suc, ◌+◌, ◌<◌, ◌≤◌, List, [], ◌∷◌, ◌++◌, length, refl, sym, ap, ◌∙◌, subst, arith, append_assoc, length-append}
 use Rattle.std.proofs.lemmas.List.{append-nil}
 use mathlib.Core.Option.{some, some-injective, some-ne-none}
 use lib.ListN.{get_elem?}
-use Rattle.atomic_table.proofs.Lists.{at_snoc, at_longer}
+use Rattle.atomic_table.proofs.Lists.{at_snoc}
 use Rattle.shelf.specs.Entries.{Entry, times, kept_if, calls_by, StartsWith}
 use Rattle.desk.specs.Views.{Stage, busy_at}
 use Rattle.desk.specs.Views.Stage.{Idle, Waiting, Holding}
 use Rattle.desk.specs.Rule.{Knows, FitsStage}
 use Rattle.desk.proofs.Totals.{at_within}
-use Rattle.desk.proofs.Views.{times-append}
 
 -- Knowing.
 

@@ -1,6 +1,6 @@
 -- Join: the kept seat has both views side by side, and the other none. Then, by a load, it has the longer history for both. Both
 -- steps keep the rule.
-use Rattle.std.proofs.Common.{◌≡◌, ◌≢◌, ◌⊎◌, inl, inr, ⊎_elim, ℕ, ◌+◌, ◌%◌, ◌^◌, ◌<◌, ◌≤◌, List, [], ◌∷◌, ◌++◌, length, set, refl, sym, ap, ◌∙◌, subst, arith, length-append}
+use Rattle.std.proofs.Common.{◌≡◌, ◌≢◌, ◌⊎◌, inl, inr, ⊎_elim, ℕ, ◌+◌, ◌%◌, ◌^◌, ◌<◌, ◌≤◌, List, [], ◌∷◌, ◌++◌, length, set, refl, sym, ap, ◌∙◌, arith, length-append}
 use Rattle.std.specs.Prelude.{slice_index, slice_set, Option}
 use Rattle.std.proofs.lemmas.List.{append-nil}
 use mathlib.Core.Option.{some}
@@ -10,10 +10,10 @@ use lib.ListN.{get_elem?}
 use Rattle.atomic_table.specs.Table.{State, Act, keeps, Valid, carried_after, Joins, Allows, stepped}
 use Rattle.atomic_table.proofs.Lists.{at_set}
 use Rattle.shelf.specs.Admits.{Shelved}
-use Rattle.shelf.specs.Entries.{Entry, times, StartsWith, calls_by}
+use Rattle.shelf.specs.Entries.{Entry, times, StartsWith}
 use Rattle.shelf.specs.Shelf.{ShelfView}
-use Rattle.desk.specs.Views.{Stage, View, view, spent, IsAlone, all_numbers, total, busy_at, busy, share, has}
-use Rattle.desk.specs.Views.Stage.{Idle, Waiting, Holding}
+use Rattle.desk.specs.Views.{View, view, spent, IsAlone, all_numbers, total, busy_at, busy, share, has}
+use Rattle.desk.specs.Views.Stage.{Idle}
 use Rattle.desk.specs.Rule.{Knows, FitsView, HasHistory}
 use Rattle.desk.specs.Seen.{AreJoined}
 use Rattle.desk.specs.Steps.{Place, both_views, Settled}

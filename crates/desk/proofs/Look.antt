@@ -1,20 +1,20 @@
 -- Look: where the word is the seat's ticket, the seat sees the history and takes the shelf, which keeps the rule.
-use Rattle.std.proofs.Common.{◌≡◌, ◌≢◌, ℕ, ◌+◌, ◌%◌, ◌^◌, ◌<◌, ◌≤◌, List, [], ◌∷◌, ◌++◌, length, set, refl, sym, ap, ◌∙◌, subst, arith}
+use Rattle.std.proofs.Common.{◌≡◌, ◌≢◌, ℕ, ◌+◌, ◌%◌, ◌^◌, List, [], ◌∷◌, length, set, refl, sym, ap, ◌∙◌, subst, arith}
 use Rattle.std.specs.Prelude.{slice_index, slice_set, Option, Some}
 use mathlib.Core.Option as slot
 use mathlib.Core.Option.{some, some-injective}
 use mathlib.Core.Logic.{dite}
 use native.Mathlib.Decide.{ℕ_discrete}
 use lib.ListN.{get_elem?}
-use Rattle.atomic_table.specs.Table.{State, Act, keeps, takes, Valid, carried_after, Me, Allows, stepped}
+use Rattle.atomic_table.specs.Table.{State, Act, keeps, takes, Valid, carried_after, Allows, stepped}
 use Rattle.atomic_table.proofs.Lists.{one_turn, set_here, set_again}
 use Rattle.shelf.specs.Admits.{Shelved}
-use Rattle.shelf.specs.Entries.{Entry, IsLegalLog, StandsAfter}
+use Rattle.shelf.specs.Entries.{IsLegalLog, StandsAfter}
 use Rattle.shelf.specs.Shelf.{ShelfView, front}
-use Rattle.desk.specs.Views.{Stage, View, view, IsAlone, all_numbers, total, busy_at, busy, share, has}
-use Rattle.desk.specs.Views.Stage.{Idle, Waiting, Holding}
-use Rattle.desk.specs.Rule.{Knows, FitsView, FitsStage, NobodyHolds, HasHistory}
-use Rattle.desk.specs.Steps.{Place, HasTurn, Looked}
+use Rattle.desk.specs.Views.{Stage, View, view, IsAlone, all_numbers, total, busy_at, busy, share}
+use Rattle.desk.specs.Views.Stage.{Waiting, Holding}
+use Rattle.desk.specs.Rule.{FitsView, FitsStage, NobodyHolds, HasHistory}
+use Rattle.desk.specs.Steps.{Place, Looked}
 use Rattle.desk.proofs.Totals.{at_within, total_set, total_within, each_set}
 use Rattle.desk.proofs.Views.{numbers-alone, share-above, share-kept, has-kept, apart-set}
 use Rattle.desk.proofs.Histories.{knows-nothing, knows-all, calls_by-known, stage-more}

@@ -1,17 +1,16 @@
 -- Publish: the holder's call is the next of the history, and the shelf is at home again, which keeps the rule.
-use Rattle.std.proofs.Common.{◌≡◌, ◌≢◌, ◌⊎◌, ⊎_elim, ℕ, zero, suc, ◌+◌, ◌%◌, ◌^◌, ◌<◌, ◌≤◌, List, [], ◌∷◌, ◌++◌, length, set, refl, sym, ap, ◌∙◌, subst, arith, length-append}
-use Rattle.std.specs.Prelude.{slice_index, slice_set, Option, Some}
-use mathlib.Core.Option as slot
+use Rattle.std.proofs.Common.{◌≡◌, ◌≢◌, ⊎_elim, ℕ, ◌+◌, ◌%◌, ◌^◌, ◌<◌, ◌≤◌, List, [], ◌∷◌, ◌++◌, length, set, refl, sym, ap, ◌∙◌, subst, arith, length-append}
+use Rattle.std.specs.Prelude.{slice_index, slice_set, Some}
 use mathlib.Core.Option.{some}
 use lib.ListN.{get_elem?}
-use Rattle.atomic_table.specs.Table.{State, gives, put_back, Allows}
+use Rattle.atomic_table.specs.Table.{gives, put_back, Allows}
 use Rattle.atomic_table.proofs.Lists.{at_snoc}
 use Rattle.shelf.specs.Admits.{Shelved}
 use Rattle.shelf.specs.Entries.{Entry, IsLegalLog, StandsAfter, times}
 use Rattle.shelf.specs.Shelf.{ShelfView, front}
-use Rattle.desk.specs.Views.{Stage, View, view, IsAlone, all_numbers, first_number, total, busy_at, busy, share, has}
-use Rattle.desk.specs.Views.Stage.{Idle, Waiting, Holding}
-use Rattle.desk.specs.Rule.{Knows, FitsView, FitsStage, HasHistory}
+use Rattle.desk.specs.Views.{Stage, View, view, IsAlone, all_numbers, first_number, total, busy_at, busy, has}
+use Rattle.desk.specs.Views.Stage.{Idle, Holding}
+use Rattle.desk.specs.Rule.{FitsView, FitsStage, HasHistory}
 use Rattle.desk.specs.Steps.{Place, Published}
 use Rattle.desk.proofs.Totals.{total_set, total_at, total_two, each_set}
 use Rattle.desk.proofs.Views.{times-append, times-first, numbers-alone, share-above, share-kept, has-kept, apart-set}

@@ -1,16 +1,14 @@
 -- Split: the new seat has the first number of the old one, which keeps the rule.
-use Rattle.std.proofs.Common.{◌≡◌, ◌≢◌, ℕ, ◌+◌, ◌%◌, ◌^◌, ◌<◌, ◌≤◌, List, [], ◌∷◌, ◌++◌, length, set, refl, sym, ap, ◌∙◌, subst, arith, length-append}
-use Rattle.std.specs.Prelude.{Option}
+use Rattle.std.proofs.Common.{◌≡◌, ℕ, ◌+◌, ◌%◌, ◌^◌, ◌≤◌, List, [], ◌∷◌, ◌++◌, length, set, refl, sym, ap, ◌∙◌, arith}
 use mathlib.Core.Option.{some}
 use lib.ListN.{get_elem?}
-use Rattle.atomic_table.specs.Table.{State, Splits}
+use Rattle.atomic_table.specs.Table.{Splits}
 use Rattle.atomic_table.proofs.Lists.{at_longer}
 use Rattle.shelf.specs.Admits.{Shelved}
-use Rattle.shelf.specs.Entries.{Entry, times}
-use Rattle.shelf.specs.Shelf.{ShelfView}
-use Rattle.desk.specs.Views.{Stage, View, view, IsAlone, all_numbers, first_of, rest_of, total, busy_at, busy, share, has}
-use Rattle.desk.specs.Views.Stage.{Idle, Waiting, Holding}
-use Rattle.desk.specs.Rule.{Knows, FitsView, HasHistory}
+use Rattle.shelf.specs.Entries.{times}
+use Rattle.desk.specs.Views.{View, IsAlone, first_of, rest_of, total, busy_at, busy, share, has}
+use Rattle.desk.specs.Views.Stage.{Idle}
+use Rattle.desk.specs.Rule.{FitsView, HasHistory}
 use Rattle.desk.specs.Steps.{kept_half, given_half}
 use Rattle.desk.proofs.Totals.{total_set, total_snoc, each_set, each_snoc}
 use Rattle.desk.proofs.Views.{numbers-alone, share-above, nobody-back, apart-set, apart-snoc, not-holding}

@@ -1,15 +1,15 @@
 -- A new desk meets the rule: nobody has made a call, and the first seat has all numbers.
-use Rattle.std.proofs.Common.{◌≡◌, ◌≢◌, ℕ, zero, suc, ◌+◌, ◌%◌, ◌^◌, ◌<◌, ◌≤◌, false, List, [], ◌∷◌, ◌++◌, length, refl, sym, ap, ◌∙◌, subst, arith}
-use Rattle.std.specs.Prelude.{Option, Some}
+use Rattle.std.proofs.Common.{◌≡◌, ◌≢◌, ℕ, zero, suc, ◌≤◌, false, [], ◌∷◌, length, refl, sym, ap, ◌∙◌, subst, arith}
+use Rattle.std.specs.Prelude.{Some}
 use Rattle.std.proofs.lemmas.List.{append-nil}
 use mathlib.Core.Option.{some, some-injective, some-ne-none}
 use lib.ListN.{get_elem?}
 use Rattle.atomic_table.specs.Table.{opening}
 use Rattle.shelf.specs.Admits.{Shelved}
-use Rattle.shelf.specs.Entries.{Entry, times, counting}
+use Rattle.shelf.specs.Entries.{times, counting}
 use Rattle.shelf.specs.Shelf.{ShelfView, front}
 use Rattle.shelf.proofs.Histories.{stands-none}
-use Rattle.desk.specs.Views.{View, first_view, total, busy, share, has}
+use Rattle.desk.specs.Views.{View, first_view, share, has}
 use Rattle.desk.specs.Rule.{FitsView, HasHistory}
 use Rattle.desk.proofs.Views.{times-counting, length-counting}
 use Rattle.desk.proofs.Histories.{knows-nothing, knows-all}

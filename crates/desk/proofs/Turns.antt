@@ -1,11 +1,9 @@
 -- A seat's turn: what it knows from the draw to the entry of its call.
-use Rattle.std.proofs.Common.{◌≡◌, ◌≢◌, ◌⊎◌, ◌↔◌, inl, inr, ℕ, ◌+◌, ◌%◌, ◌^◌, ◌<◌, ◌≤◌, Bool, true, false, List, [], ◌∷◌, ◌++◌, length, map, Option, Some, None, Result, Ok, Err, refl, sym, ap, ◌∙◌, subst, arith, append_assoc}
-use Rattle.atomic_table.specs.Table.{rest}
-use Rattle.avl_values.specs.Causes.{IsAbove}
+use Rattle.std.proofs.Common.{◌≡◌, ◌≢◌, ◌⊎◌, ◌↔◌, inl, inr, ℕ, ◌<◌, Bool, true, false, List, [], ◌∷◌, ◌++◌, length, Option, Some, None, Result, Ok, Err, refl, sym, ap, ◌∙◌, subst, arith}
 use Rattle.avl_values.specs.Record.{Record}
 use Rattle.record_layout.specs.RecordsOf.{records_of}
 use Rattle.shelf.specs.Archive.{StoredValue}
-use Rattle.shelf.specs.Admits.{Shelved, Answer, answer_of, down_after, Fits, Admits}
+use Rattle.shelf.specs.Admits.{Shelved, Answer, answer_of, down_after, Fits}
 use Rattle.shelf.specs.Calls.{Brought, brought_by, no_mark, down_by}
 use Rattle.shelf.specs.Entries.{Entry, entry, all_brought, IsLegalLog, StandsAfter, AreCountedIn, StartsWith, times, calls_by}
 use Rattle.shelf.specs.Histories.{IsCounted, AreCounted, IsLegalFor, StandsFor}
@@ -19,7 +17,7 @@ use Rattle.desk.specs.Views.Stage.{Idle, Waiting, Holding}
 use Rattle.desk.specs.Seen.{Extends}
 use Rattle.desk.specs.Steps.{Place, Drawn, HasTurn, Looked, Published}
 use Rattle.desk.specs.Refusals.{HasFault, before_last, IsDown, CarriesAbove, TellsNoFault, AllFaultless}
-use Rattle.desk.proofs.Views.{times-own, times-first}
+use Rattle.desk.proofs.Views.{times-own}
 use Rattle.desk.proofs.Histories.{calls_by-append, calls_by-one}
 
 -- Waiting.
@@ -187,28 +185,30 @@ faultless high (x ∷ log) low none are = (one x.brought.answer are.0, faultless
 
 -- The entry.
 
-module _ (o : Shelved) (old new : Place) (imei : ℕ) (body : List ℕ) (result : Result Receipt AdmitFault) (y z : ShelfView) (up : o.down ≡ false) (opening : old.0.opening ≡ o) (alone : IsAlone Idle old.0)
-    (turn : HasTurn old new) (holds : new.1 ≡ (0, Some y) ∷ []) (left : Leaves y imei body result z) (place : Place) (same : place.0 ≡ new.0) where
-  -- the call, at the place from which it is entered
+-- From the draw at `old` to the place from which the call is entered: the turn came at `new`, the shelf was taken, its call left
+-- what it left, and the shelf was given back.
+module _ (o : Shelved) (old new taken place : Place) (imei : ℕ) (body : List ℕ) (result : Result Receipt AdmitFault) (y z : ShelfView) (up : o.down ≡ false) (opening : old.0.opening ≡ o) (alone : IsAlone Idle old.0)
+    (turn : HasTurn old new) (holds : new.1 ≡ (0, Some y) ∷ []) (empty : taken ≡ (new.0, (0, None) ∷ [])) (left : Leaves y imei body result z) (back : place ≡ (taken.0, (0, Some z) ∷ [])) where
+  same-view : place.0 ≡ new.0
+  same-view = ap (λ (p : Place). p.0) back ∙ ap (λ (p : Place). p.0) empty
+
   pub entered : Called o old.0.numbers (entry (first_number place.0.numbers) (brought_by no_mark imei body result)) result old.0.seen place.0.seen (front z)
   entered =
       let b : Brought = brought_by no_mark imei body result in
       let P : List Entry × ℕ → Type 0 = λ p. Called o old.0.numbers (entry p.1 b) result old.0.seen p.0 (front z) in
-      subst P (λ i. (sym (ap (λ (v : View). v.seen) same) i, sym (ap (λ (v : View). first_number v.numbers) (same ∙ turn.holds)) i))
+      subst P (λ i. (sym (ap (λ (v : View). v.seen) same-view) i, sym (ap (λ (v : View). first_number v.numbers) (same-view ∙ turn.holds)) i))
       (called o old new imei body result y z up opening alone turn holds left)
 
-  pub place-alone : IsAlone Holding place.0
-  place-alone = subst (IsAlone Holding) (sym same) (turn-alone old new alone turn)
+  -- the shelf that the seat gives back
+  pub given-back : (shelf : ShelfView) × (place.1 ≡ (0, Some shelf) ∷ []) × StandsAfter o (place.0.seen ++ entry (first_number place.0.numbers) (brought_by no_mark imei body result) ∷ []) (front shelf)
+  given-back = (z, ap (λ (p : Place). p.1) back, entered.stands)
 
   module _ (after : Place) (published : Published (entry (first_number place.0.numbers) (brought_by no_mark imei body result)) place after) where
     seen-after : place.0.seen ++ entry (first_number place.0.numbers) (brought_by no_mark imei body result) ∷ [] ≡ after.0.seen
     seen-after = sym (ap (λ (p : Place). p.0.seen) published)
 
     pub extends-after : Extends o old.0.numbers (brought_by no_mark imei body result) old.0.seen after.0.seen
-    extends-after = subst (λ (l : List Entry). Extends o old.0.numbers (brought_by no_mark imei body result) old.0.seen l) seen-after entered.extends
+    extends-after = subst (Extends o old.0.numbers (brought_by no_mark imei body result) old.0.seen) seen-after entered.extends
 
     pub down-after : IsDown result ↔ HasFault (before_last after.0.seen)
     down-after = subst (λ (l : List Entry). IsDown result ↔ HasFault (before_last l)) seen-after entered.down
-
-    pub alone-after : IsAlone Idle after.0
-    alone-after = subst (IsAlone Idle) (sym (ap (λ (p : Place). p.0) published)) (record { at = refl; no_seen = refl; no_numbers = refl; numbered = place-alone.numbered })

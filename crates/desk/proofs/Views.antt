@@ -1,17 +1,15 @@
 -- Facts of one view, and of all views where one changes.
-use Rattle.std.proofs.Common.{◌≡◌, ◌≢◌, ◌⊎◌, ⊎_elim, ℕ, zero, suc, ◌+◌, ◌<◌, ◌≤◌, List, [], ◌∷◌, ◌++◌, length, set, refl, sym, ap, ◌∙◌, subst, arith, length-append}
-use Rattle.std.specs.Prelude.{◌==◌, if◌then◌else◌}
+use Rattle.std.proofs.Common.{◌≡◌, ◌≢◌, ⊎_elim, ℕ, zero, suc, ◌+◌, ◌<◌, ◌≤◌, List, [], ◌∷◌, ◌++◌, length, set, refl, sym, ap, ◌∙◌, subst, arith}
 use Rattle.std.proofs.lemmas.Bool.Decides.{nat_tests}
 use Rattle.std.proofs.lemmas.List.{append-nil}
-use mathlib.Core.Option.{some, some-injective, some-ne-none}
+use mathlib.Core.Option.{some, some-injective}
 use mathlib.Core.Logic.{dite}
 use native.Mathlib.Decide.{ℕ_discrete}
 use lib.ListN.{get_elem?}
 use Rattle.atomic_table.proofs.Lists.{at_set, at_snoc, set_else}
-use Rattle.shelf.specs.Admits.{Shelved}
-use Rattle.shelf.specs.Entries.{Entry, times, counting}
-use Rattle.desk.specs.Views.{Stage, View, view, spent, IsAlone, all_numbers, first_of, rest_of, first_number, total, busy_at, busy, share, has}
-use Rattle.desk.specs.Views.Stage.{Idle, Waiting, Holding}
+use Rattle.shelf.specs.Entries.{times, counting}
+use Rattle.desk.specs.Views.{Stage, View, view, IsAlone, all_numbers, first_number, total, busy, share, has}
+use Rattle.desk.specs.Views.Stage.{Idle, Holding}
 use Rattle.desk.specs.Rule.{NobodyHolds, TicketsDiffer}
 use Rattle.desk.proofs.Totals.{total_set}
 

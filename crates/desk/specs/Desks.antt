@@ -1,5 +1,5 @@
 -- Words over a desk and its seats.
-use Rattle.std.specs.Prelude.{◌≡◌, ℕ, ◌<◌, List, [], ◌∷◌, length, slice_get, Some}
+use Rattle.std.specs.Prelude.{◌≡◌, ℕ, List, [], ◌∷◌, slice_get, Some}
 use Rattle.shelf.specs.Admits.{Shelved}
 use Rattle.shelf.specs.Entries.{Entry}
 use Rattle.shelf.specs.Shelf.{front}

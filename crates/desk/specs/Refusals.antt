@@ -1,5 +1,5 @@
 -- When a desk's call is refused, by the history.
-use Rattle.std.specs.Prelude.{◌≡◌, ◌⊎◌, ℕ, List, [], ◌∷◌, Result, Ok, Err}
+use Rattle.std.specs.Prelude.{◌⊎◌, ℕ, List, [], ◌∷◌, Result, Ok, Err}
 use Rattle.avl_values.specs.Causes.{IsAbove}
 use Rattle.shelf.specs.Admits.{Answer}
 use Rattle.shelf.specs.Entries.{Entry}

@@ -1,7 +1,7 @@
 -- What a session's call leaves of a seat at its desk.
-use Rattle.std.proofs.Common.{◌≡◌, ◌↔◌, ℕ, List, [], ◌∷◌, ◌++◌, Some, Result, refl, sym, ap, ◌∙◌}
+use Rattle.std.proofs.Common.{◌≡◌, ◌↔◌, ℕ, List, [], ◌∷◌, ◌++◌, Some, Result, refl, ap, ◌∙◌}
 use Rattle.medium_model.specs.declared.medium.Medium.{Ghosts}
-use Rattle.shelf.specs.Calls.{brought_by, no_mark, with_calls, TellsCall}
+use Rattle.shelf.specs.Calls.{brought_by, no_mark, TellsCall}
 use Rattle.shelf.specs.Entries.{Entry, all_brought, calls_by}
 use Rattle.shelf.specs.declared.receipt.Receipt.{Receipt}
 use Rattle.shelf.specs.declared.receipt.AdmitFault.{AdmitFault}

@@ -1,5 +1,5 @@
 -- What each kind of step tells the seat that makes it.
-use Rattle.std.specs.Prelude.{◌≡◌, ◌≢◌, ℕ, ◌%◌, ◌^◌, List, [], ◌∷◌, ◌++◌, Option, Some, Err}
+use Rattle.std.specs.Prelude.{◌≡◌, ◌≢◌, ℕ, ◌%◌, ◌^◌, [], ◌∷◌, ◌++◌, Option, Some, Err}
 use Rattle.atomic_table.specs.Table.{Me, rest}
 use Rattle.shelf.specs.Calls.{no_mark}
 use Rattle.shelf.specs.Entries.{Entry, entry, IsLegalLog, StandsAfter, StartsWith, calls_by}

@@ -17,13 +17,13 @@ use shelf::{AdmitFault, Receipt, Shelf};
 use std::marker::{Brand, PhantomData};
 
 /// Names the entry of a call. Each call of `publish` picks it.
-pub trait Says {
+pub trait NamesEntry {
     ghost use Rattle.shelf.specs.Entries.{Entry};
 
     ghost entry: { Entry };
 }
 
-impl Says for Brand {
+impl NamesEntry for Brand {
     ghost use Rattle.desk.specs.Steps.{no_entry};
 
     ghost entry = { no_entry };
@@ -34,14 +34,14 @@ pub struct Publish<E> {
     marker: PhantomData<E>,
 }
 
-impl<M: Medium, E: Says> Play<Option<Shelf<M>>, View> for Publish<E> {
+impl<M: Medium, E: NamesEntry> Play<Option<Shelf<M>>, View> for Publish<E> {
     ghost use Rattle.desk.specs.Steps.{Published as SeatPublished};
 
     ghost then = { λ s m n r. SeatPublished E.entry m r };
 }
 
 impl<M: Medium> Desk<M> {
-    pub(super) fn publish<E: Says>(
+    pub(super) fn publish<E: NamesEntry>(
         &self,
         token: &mut Token<M>,
         imei: Imei,
@@ -56,6 +56,7 @@ impl<M: Medium> Desk<M> {
         ensures table { token.new.table_id ≡ token.old.table_id }
         ensures published { Published E.entry token.old.me token.new.me }
     {
+        // The entry is made of these arguments.
         let _ = imei;
         let _ = body;
         let _ = answer;

@@ -1,4 +1,4 @@
-use Rattle.std.proofs.Common.{◌≡◌, ◌<◌, ◌≤◌, Some, IsSome, arith, refl, sym, ap, ◌∙◌, subst, Option}
+use Rattle.std.proofs.Common.{◌<◌, IsSome, arith, refl, sym, ap, ◌∙◌, subst, Option}
 use Rattle.std.specs.Slots.{slots_len}
 use mathlib.Core.Option.{some-injective}
 use Rattle.shelf.specs.Shelf.{ShelfView, front}

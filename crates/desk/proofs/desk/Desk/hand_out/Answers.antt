@@ -1,10 +1,8 @@
-use Rattle.std.proofs.Common.{◌≡◌, ℕ, ◌+◌, ◌<◌, List, [], ◌∷◌, length, arith, sym, ap, ◌∙◌, subst, length-append}
+use Rattle.std.proofs.Common.{◌≡◌, ◌+◌, ◌<◌, List, length, arith, sym, ap, ◌∙◌, subst, length-append}
 use Rattle.desk.specs.declared.desk.Seat.{Seat}
-use Rattle.desk.specs.Views.{view}
-use Rattle.desk.specs.Views.Stage.{Idle}
 use Rattle.desk.specs.Steps.{Place}
-use Rattle.desk.specs.Desks.{AreNewSeats, opening}
-use Rattle.desk.proofs.Deal.{IsDealing, deal-next, deal-given, deal-last, seats-snoc}
+use Rattle.desk.specs.Desks.{AreNewSeats}
+use Rattle.desk.proofs.Deal.{deal-next, deal-given, deal-last, seats-snoc}
 use Rattle.desk.proofs.desk.Desk.hand_out.Goals as goal
 
 pub loop-preserved : goal.loop-preserved

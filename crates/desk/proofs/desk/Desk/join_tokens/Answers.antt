@@ -1,6 +1,6 @@
-use Rattle.std.proofs.Common.{◌≡◌, ◌<◌, length, arith, refl, sym, ap, ◌∙◌, subst}
+use Rattle.std.proofs.Common.{◌<◌, length, arith, sym, ap, ◌∙◌, subst}
 use Rattle.desk.specs.Views.{View}
-use Rattle.desk.specs.Steps.{Place, Settled}
+use Rattle.desk.specs.Steps.{Place}
 use Rattle.desk.proofs.Join.{joins, settles}
 use Rattle.desk.proofs.desk.Desk.join_tokens.Goals as goal
 

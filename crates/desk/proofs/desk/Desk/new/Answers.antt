@@ -1,4 +1,4 @@
-use Rattle.std.proofs.Common.{ℕ, List, [], ◌∷◌, ◌++◌, Some, Option, arith, sym, ap, ◌∙◌, subst}
+use Rattle.std.proofs.Common.{ℕ, List, [], ◌∷◌, ◌++◌, Some, Option, sym, ap, ◌∙◌, subst}
 use Rattle.atomic_table.specs.Table as table
 use Rattle.shelf.specs.Shelf.{ShelfView, front}
 use Rattle.desk.specs.Rule.{HasHistory}

@@ -1,4 +1,4 @@
-use Rattle.std.proofs.Common.{◌≡◌, [], ◌∷◌, Some}
+use Rattle.std.proofs.Common.{Some}
 use Rattle.desk.proofs.Shelves.{held-one}
 use Rattle.desk.proofs.desk.Desk.take.Goals as goal
 
