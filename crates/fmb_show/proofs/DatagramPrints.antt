@@ -5,7 +5,7 @@ use Rattle.record_layout.specs.Body.{IsBody}
 use Rattle.record_layout.specs.Packet.{IsPacket}
 use Rattle.record_layout.specs.PacketRows.{packet_verdict}
 use Rattle.record_layout.specs.declared.head.PacketHead.{PacketHead}
-use Rattle.record_layout.proofs.BodyLaws.{body_judged}
+use Rattle.record_layout.proofs.Exports.{body_is_whole}
 use Rattle.show_lines.specs.PacketLines.{packet_lines}
 use Rattle.fmb_show.specs.ItemLines.{head_lines}
 
@@ -17,4 +17,4 @@ packet_printed head body first before between out line b own lines =
     lines b.records b.packet
     ∙ ap (λ (o : List ℕ). o ++ packet_lines head body line) own
     ∙ append_assoc before first (packet_lines head body line)
-    ∙ ap (λ (v : Verdict PacketHead). before ++ (first ++ head_lines v body line)) (sym (body_judged head body b))
+    ∙ ap (λ (v : Verdict PacketHead). before ++ (first ++ head_lines v body line)) (sym (body_is_whole head body b))

@@ -1,6 +1,7 @@
 pub mod Checksum
 pub mod DownLaws
 pub mod Examples
+pub mod Exports
 pub mod FrameFills
 pub mod KindFills
 pub mod Lengths
