@@ -3,6 +3,7 @@ pub mod FieldLemmas
 pub mod FieldSpelling
 pub mod LineSpelling
 pub mod ReadingLemmas
+pub mod ScriptLaws
 pub mod StandingLemmas
 pub mod Values
 pub mod WritingLemmas

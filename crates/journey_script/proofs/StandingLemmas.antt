@@ -170,7 +170,7 @@ not_first : (a b : Bool) → (a || b) ≡ false → a ≡ false
 not_first true b h = h
 not_first false b h = refl
 
-some_number : (count connection : ℕ) → connection_fault count connection ≡ None → 1 ≤ connection
+pub some_number : (count connection : ℕ) → connection_fault count connection ≡ None → 1 ≤ connection
 some_number count connection sound =
     let some : (connection == 0) ≡ false = not_first (connection == 0) (nat_lt count connection) (no_fault _ NoConnection sound) in grind (arith, nat_tests)
 

@@ -1,14 +1,13 @@
 -- Words joined one after the other.
-use Rattle.std.proofs.Common.{◌≡◌, ℕ, ◌+◌, ◌<◌, List, [], ◌∷◌, ◌++◌, map, take, drop, drop-cons, replicate, suc, ◌-◌, arith, length, get_or, codes, decimal, sym, ap, ◌∙◌, append_assoc}
-use Rattle.std.proofs.lemmas.List.{append-nil, map_push, replicate_more, take_more}
+use Rattle.std.proofs.Common.{◌≡◌, ℕ, ◌+◌, ◌<◌, List, [], ◌∷◌, ◌++◌, map, take, length, get_or, codes, decimal, sym, ap, ◌∙◌, append_assoc}
+use Rattle.std.proofs.lemmas.List.{append-nil, map_push, take_more}
 use Rattle.std.specs.List.{join_with_byte}
 use Rattle.avl_values.specs.Imei.{imei_text}
 use Rattle.journey_script.specs.declared.compact.CompactFix.{CompactFix}
-use Rattle.journey_script.specs.declared.compact.NumberedLine.{NumberedLine}
-use Rattle.journey_script.specs.Compact.{fix_line, line_in, script_in}
+use Rattle.journey_script.specs.Compact.{fix_line}
 use Rattle.journey_script.specs.Table.{spell_field, value_kind}
 use Rattle.journey_script.specs.Writing.{spelled}
-use Rattle.journey_script.specs.WrittenText.{after_line, after_words, motion_text, place_text}
+use Rattle.journey_script.specs.WrittenText.{after_words, motion_text, place_text}
 
 -- a word, and the others after it
 pub joined : (word : List ℕ) (words : List (List ℕ)) → join_with_byte 32 (word ∷ words) ≡ word ++ after_words words

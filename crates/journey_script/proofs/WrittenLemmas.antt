@@ -261,7 +261,7 @@ record IsReadText (text : List ℕ) (script : Script) : Type 0 where
   texts : texts_of script ≡ content_lines text
   say : AllSay (content_lines text)
 
-is_short : (text : List ℕ) (script : Script) → script_of text ≡ Ok script → (length text ≤ 2 ^ 24) × (fold with_text_line (Ok []) (content_lines text) ≡ Ok script)
+pub is_short : (text : List ℕ) (script : Script) → script_of text ≡ Ok script → (length text ≤ 2 ^ 24) × (fold with_text_line (Ok []) (content_lines text) ≡ Ok script)
 unfolding script_of
 is_short text script h = by (nat_lt (2 ^ 24) (length text)) refl h
   where

@@ -1,6 +1,6 @@
 -- Which scripts a real tracker can be driven by, as `drive` does (this project's own): those of one device, with no step that only a trial
 -- can take.
-use Rattle.std.specs.Prelude.{ℕ, ◌||◌, Bool, true, false, is_some, List, [], ◌∷◌, Option, Some, None, if◌then◌else◌}
+use Rattle.std.specs.Prelude.{ℕ, ◌||◌, Bool, true, false, is_some, [], ◌∷◌, Option, Some, None, if◌then◌else◌}
 use Rattle.trial_model.specs.Script.{Script}
 use Rattle.trial_model.specs.declared.script.ScriptLine.{ScriptLine}
 use Rattle.trial_model.specs.declared.script.ScriptLine.TheVariants as Line

@@ -4,6 +4,7 @@ pub mod Faults
 pub mod FieldsLeft
 pub mod Grammar
 pub mod Later
+pub mod Laws
 pub mod Lines
 pub mod Numbers
 pub mod Standing
