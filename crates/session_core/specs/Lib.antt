@@ -1,0 +1,4 @@
+pub mod Givings
+pub mod Knowing
+pub mod Sessions
+pub mod Talks

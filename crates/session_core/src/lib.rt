@@ -1,0 +1,12 @@
+//! A server's end of a connection: which devices it knows, the commands that wait for them, and a session.
+#![tactic(auto)]
+
+mod known;
+mod orders;
+mod served;
+mod session;
+
+pub use known::{ImeiList, Known};
+pub use orders::{NoOrders, Orders};
+pub use served::{Served, SessionEnd};
+pub use session::{Session, Step};
