@@ -1,1 +1,6 @@
+pub mod Going
 pub mod Hearing
+pub mod Piecing
+pub mod Reading
+pub mod Taking
+pub mod Working

@@ -1,4 +1,7 @@
+pub mod Doings
 pub mod Givings
 pub mod Knowing
+pub mod Readings
 pub mod Sessions
 pub mod Talks
+pub mod Works

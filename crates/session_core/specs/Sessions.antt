@@ -71,6 +71,7 @@ owes_after (Broken found) = false
 
 -- The first n bytes of the piece were taken, and the reader decided what the step says.
 pub record Heard (old new : SessionState) (piece : List ℕ) (n : ℕ) (step : Step) : Type 0 where
+  pub place : old.reader.after_first ≡ is_there old.imei
   pub decided : Decided UpValue
   pub pushed : Pushed up_rows lent_up old.reader new.reader piece n decided
   pub says : StepSays step new.reader.body decided

@@ -5,6 +5,7 @@ mod known;
 mod orders;
 mod served;
 mod session;
+mod work;
 
 pub use known::{ImeiList, Known};
 pub use orders::{NoOrders, Orders};
