@@ -2,5 +2,6 @@ pub mod Going
 pub mod Hearing
 pub mod Piecing
 pub mod Reading
+pub mod Serving
 pub mod Taking
 pub mod Working

@@ -27,7 +27,7 @@ module _ {S O : Type 0} (leaves : S → ℕ → List ℕ → Result Receipt Admi
   pub step_none : (q : Option SessionEnd) (bytes : List ℕ) (old new : SessionState) (x y : Doing S O) → q ≡ None → Took leaves m known q bytes old new x y → IsReady new × Goes leaves m known bytes [] old.reader new.reader x y
   step_none q bytes old new x y is took = subst (λ (p : Option SessionEnd). Took leaves m known p bytes old new x y) is took
 
-  step_some : (q : Option SessionEnd) (end : SessionEnd) (bytes : List ℕ) (old new : SessionState) (x y : Doing S O) → q ≡ Some end → Took leaves m known q bytes old new x y → EndsIn leaves m known end bytes [] old.reader x y
+  pub step_some : (q : Option SessionEnd) (end : SessionEnd) (bytes : List ℕ) (old new : SessionState) (x y : Doing S O) → q ≡ Some end → Took leaves m known q bytes old new x y → EndsIn leaves m known end bytes [] old.reader x y
   step_some q end bytes old new x y is took = subst (λ (p : Option SessionEnd). Took leaves m known p bytes old new x y) is took
 
   pub piece_goes : (piece : List ℕ) (at n : ℕ) (r s t : Reader) (x y z : Doing S O) → Goes leaves m known (take at piece) [] r s x y → Goes leaves m known (take n (left_from at piece)) [] s t y z → Goes leaves m known (take (at + n) piece) [] r t x z

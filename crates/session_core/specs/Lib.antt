@@ -1,4 +1,5 @@
 pub mod Doings
+pub mod Endings
 pub mod Givings
 pub mod Knowing
 pub mod Readings

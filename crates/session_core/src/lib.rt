@@ -3,6 +3,7 @@
 
 mod known;
 mod orders;
+mod serve;
 mod served;
 mod session;
 mod work;
