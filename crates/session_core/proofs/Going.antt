@@ -79,20 +79,22 @@ module _ {S O : Type 0} (leaves : S → ℕ → List ℕ → Result Receipt Admi
     heads = subst (λ (vs : List UpValue). Heads (a ++ b) vs r) (sym (append_assoc g.said h.dealt (h.at ∷ []))) (heads_after a b g.said (h.dealt ++ h.at ∷ []) r s g.reads h.heads);
     does = does_then g.said h.dealt p q x y h.between g.does h.does;
     stops = h.stops;
+    imei = h.imei;
   }
 
   pub stops_wider : (end : SessionEnd) (a b p : List ℕ) (r : Reader) (x y : Doing S O) → Stops leaves m known end a p r x y → Stops leaves m known end (a ++ b) p r x y
-  stops_wider end a b p r x y h = record { dealt = h.dealt; at = h.at; between = h.between; heads = heads_wider a b (h.dealt ++ h.at ∷ []) r h.heads; does = h.does; stops = h.stops }
+  stops_wider end a b p r x y h = record { dealt = h.dealt; at = h.at; between = h.between; heads = heads_wider a b (h.dealt ++ h.at ∷ []) r h.heads; does = h.does; stops = h.stops; imei = h.imei }
 
   pub breaks_after : (found : Fault) (a b p q : List ℕ) (r s : Reader) (x y z : Doing S O) → Goes leaves m known a p r s x y → Breaks leaves m known found b q s y z → Breaks leaves m known found (a ++ b) (p ++ q) r x z
   breaks_after found a b p q r s x y z g h = record {
     dealt = g.said ++ h.dealt;
     reads = fault_after found a b g.said h.dealt r s g.reads h.reads;
     does = does_then g.said h.dealt p q x y z g.does h.does;
+    welcome = h.welcome;
   }
 
   pub breaks_wider : (found : Fault) (a b p : List ℕ) (r : Reader) (x y : Doing S O) → Breaks leaves m known found a p r x y → Breaks leaves m known found (a ++ b) p r x y
-  breaks_wider found a b p r x y h = record { dealt = h.dealt; reads = fault_wider found a b h.dealt r h.reads; does = h.does }
+  breaks_wider found a b p r x y h = record { dealt = h.dealt; reads = fault_wider found a b h.dealt r h.reads; does = h.does; welcome = h.welcome }
 
   -- an end, by what is said of a stop and of a fault
   pub end_map : (end : SessionEnd) (a b p q : List ℕ) (r s : Reader) (x y z : Doing S O) → (Stops leaves m known end a p s y z → Stops leaves m known end b q r x z)

@@ -20,7 +20,7 @@ use Rattle.session_core.specs.declared.session.Step.TheVariants.{More, Login, Pa
 use Rattle.session_core.specs.Doings.{Doing, counted_in, Does, Goes, Stops, StopsAt, Breaks, IsCut, IsStranger}
 use Rattle.session_core.specs.Readings.{Reads}
 use Rattle.session_core.specs.Sessions.{SessionState, IsReady, Heard, is_there, talk_with, talk_of}
-use Rattle.session_core.specs.Talks.{Meaning, Talk, nobody, device, stranger, reply, response_of, told_by, records_in}
+use Rattle.session_core.specs.Talks.{Meaning, Talk, nobody, device, stranger, reply, next, response_of, told_by, records_in, imei_in, orders_in, is_stranger}
 use Rattle.session_core.specs.Works.{Greets, Took}
 use Rattle.session_core.proofs.Going.{does_none, stopped}
 use Rattle.session_core.proofs.Hearing.{frame_stays}
@@ -37,6 +37,20 @@ there_is (Some imei) e n = absurd cc
 -- the push as one of what was decided
 pushed_as : (old new : Reader) (piece : List ℕ) (n : ℕ) (d e : Decided UpValue) → d ≡ e → Pushed up_rows lent_up old new piece n d → Pushed up_rows lent_up old new piece n e
 pushed_as old new piece n d e is p = subst (λ (x : Decided UpValue). Pushed up_rows lent_up old new piece n x) is p
+
+pub talk_imei : {O : Type 0} → (i : Option ℕ) (b : Bool) (o : O) → imei_in (talk_with i b o) ≡ i
+talk_imei None b o = refl
+talk_imei (Some imei) true o = refl
+talk_imei (Some imei) false o = refl
+
+pub talk_orders : {O : Type 0} → (i : Option ℕ) (b : Bool) (o : O) → orders_in (talk_with i b o) ≡ o
+talk_orders None b o = refl
+talk_orders (Some imei) true o = refl
+talk_orders (Some imei) false o = refl
+
+pub never_stranger : {O : Type 0} → (i : Option ℕ) (o : O) → is_stranger (talk_with i false o) ≡ false
+never_stranger None o = refl
+never_stranger (Some imei) o = refl
 
 -- behind a frame somebody has logged in
 pub packet_has_imei : (old new : SessionState) (piece : List ℕ) (n : ℕ) → Heard old new piece n Packet → new.imei ≡ None → ⊥
@@ -79,23 +93,31 @@ module _ {S O : Type 0} (leaves : S → ℕ → List ℕ → Result Receipt Admi
        record { said = []; reads = reads_push old.reader new.reader rest n more p; does = does_none leaves m known (at (talk_of old o) s w f k) })
 
   -- A fault.
-  pub broken_took : (found : Fault) (rest : List ℕ) (n : ℕ) (old new : SessionState) (o : O) (s : S) (w : Option Traffic) (f k : ℕ) → Heard old new rest n (Broken found)
+  pub broken_took : (found : Fault) (rest : List ℕ) (n : ℕ) (old new : SessionState) (o : O) (s : S) (w : Option Traffic) (f k : ℕ) → IsReady old → Heard old new rest n (Broken found)
       → Took leaves m known (Some (ends.Broken found)) (take n rest) old new (at (talk_of old o) s w f k) (at (talk_of new o) s w f k)
-  broken_took found rest n old new o s w f k h =
+  broken_took found rest n old new o s w f k ready h =
       let p = pushed_as old.reader new.reader rest n h.decided (broken found.kind found.place) h.says h.pushed in
       took_as (Some (ends.Broken found)) (take n rest) old new s s w w f k f k (talk_of old o) (talk_of old o) (talk_of new o) (talk_of old o) refl (ap (λ (x : Option ℕ × Bool). talk_with x.0 x.1 o) (λ i. (h.imei i, h.refused i)))
-      (record { dealt = []; reads = fault_push found old.reader new.reader rest n p; does = does_none leaves m known (at (talk_of old o) s w f k) })
+      (record { dealt = []; reads = fault_push found old.reader new.reader rest n p; does = does_none leaves m known (at (talk_of old o) s w f k); welcome = ap (λ (b : Bool). is_stranger (talk_with old.imei b o)) ready.welcome ∙ never_stranger old.imei o })
 
   -- one item stands first
-  stops_first : (end : SessionEnd) (v : UpValue) (rest : List ℕ) (n : ℕ) (old new : Reader) (x y : Doing S O) → Pushed up_rows lent_up old new rest n (item v) → StopsAt leaves m known end v x y → Stops leaves m known end (take n rest) [] old x y
-  stops_first end v rest n old new x y p stops = record {
+  stops_first : (end : SessionEnd) (v : UpValue) (rest : List ℕ) (n : ℕ) (old new : Reader) (x y : Doing S O) → Pushed up_rows lent_up old new rest n (item v) → StopsAt leaves m known end v x y → imei_in y.talk ≡ imei_in (next m known x.talk v) → Stops leaves m known end (take n rest) [] old x y
+  stops_first end v rest n old new x y p stops imei = record {
     dealt = []; at = v; between = x;
     heads = heads_read (take n rest) (v ∷ []) old new (reads_push old new rest n (item v) p);
     does = does_none leaves m known x;
     stops = stops;
+    imei = imei;
   }
 
   -- A login.
+
+  by_known : (b : Bool) (imei : ℕ) (o q : O) → imei_in (if b then device imei q else stranger imei o) ≡ Some imei
+  by_known true imei o q = refl
+  by_known false imei o q = refl
+
+  logged_in : (imei : ℕ) (o : O) → imei_in (next m known (nobody o) (login imei)) ≡ Some imei
+  logged_in imei o = by_known (known imei) imei o (m.asked o imei)
 
   welcomed : (imei : ℕ) (o p : O) (s : S) (w v : Option Traffic) (f k : ℕ) → known imei ≡ true → p ≡ m.asked o imei → Moves [] (reply m known (nobody o) (login imei)) w v
       → Does leaves m known (login imei ∷ []) [] (at (nobody o) s w f k) (at (device imei p) s v f k)
@@ -111,6 +133,9 @@ module _ {S O : Type 0} (leaves : S → ℕ → List ℕ → Result Receipt Admi
       → IsStranger leaves m known who (login imei) (at (nobody o) s w f k) (at (stranger imei p) s v f k)
   sent_away imei who o p s w v f k is same which move = record {
     orders = p;
+    is = ap (λ (i : ℕ). login i) (sym which);
+    unknown = ap known which ∙ is;
+    before = ap (λ (q : O). nobody q) (sym same);
     does = record {
       talk = ap (λ (q : O). stranger imei q) same ∙ ap (λ (b : Bool). if b then device imei (m.asked o imei) else stranger imei o) (sym is);
       wire = moves_as [] (reply m known (nobody o) (login imei)) [] (reply m known (nobody o) (login imei) ++ []) w v refl (sym (append-nil (reply m known (nobody o) (login imei)))) move;
@@ -147,14 +172,14 @@ module _ {S O : Type 0} (leaves : S → ℕ → List ℕ → Result Receipt Admi
       took_as (Some ends.LinkFault) (take n rest) old new s s w v f k f k (talk_of old o) (nobody o) (talk_of new p) (talk_of new p)
       (ap (λ (x : Option ℕ). talk_with x old.refused o) (login_has_none old mid rest n imei h)) refl
       (stops_first ends.LinkFault (login imei) rest n old.reader mid.reader (at (nobody o) s w f k) (at (talk_of new p) s v f k) push
-        (record { part = g.0; within = g.1; wire = g.2; calls = []; feeds = refl; stored = tt; frames = cut_frames f g.0; records = cut_records k g.0 }))
+        (record { part = g.0; within = g.1; wire = g.2; calls = []; feeds = refl; stored = tt; frames = cut_frames f g.0; records = cut_records k g.0 }) (talk_imei new.imei new.refused p ∙ (ap (λ (x : SessionState). x.imei) is ∙ (h.imei ∙ sym (logged_in imei o)))))
   login_took imei rest n old mid new o p s w v f k (Some (ends.Unknown who)) ready h is g =
       let push = pushed_as old.reader mid.reader rest n h.decided (item (login imei)) h.says h.pushed in
       let there : new.imei ≡ Some imei = ap (λ (x : SessionState). x.imei) is ∙ h.imei in
       let refused : new.refused ≡ true = ap (λ (x : SessionState). x.refused) is ∙ ap not g.2 in
       took_as (Some (ends.Unknown who)) (take n rest) old new s s w v f k f k (talk_of old o) (nobody o) (talk_of new p) (stranger imei p)
       (ap (λ (x : Option ℕ). talk_with x old.refused o) (login_has_none old mid rest n imei h)) (ap (λ (x : Option ℕ × Bool). talk_with x.0 x.1 p) (λ i. (there i, refused i)))
-      (stops_first (ends.Unknown who) (login imei) rest n old.reader mid.reader (at (nobody o) s w f k) (at (stranger imei p) s v f k) push (sent_away imei who o p s w v f k g.2 g.1 g.3 g.0))
+      (stops_first (ends.Unknown who) (login imei) rest n old.reader mid.reader (at (nobody o) s w f k) (at (stranger imei p) s v f k) push (sent_away imei who o p s w v f k g.2 g.1 g.3 g.0) (sym (logged_in imei o)))
   login_took imei rest n old mid new o p s w v f k (Some ends.Ended) ready h is g = absurd g
   login_took imei rest n old mid new o p s w v f k (Some (ends.EndedInside j)) ready h is g = absurd g
   login_took imei rest n old mid new o p s w v f k (Some (ends.Broken found)) ready h is g = absurd g
@@ -197,7 +222,7 @@ module _ {S O : Type 0} (leaves : S → ℕ → List ℕ → Result Receipt Admi
       let a : Answered imei old mid new = record { before = sym h.imei ∙ who; after = same.0 ∙ who; welcome_before = ready.welcome; welcome_after = same.1 ∙ (h.refused ∙ ready.welcome) } in
       device_took (Some end) imei (take n rest) old mid new o p s t w v f k g j a
       (stopped leaves m known end (take n rest) [] old.reader (at (device imei o) s w f k) (at (device imei p) t v g j)
-        (stops_first end v' rest n old.reader mid.reader (at (device imei o) s w f k) (at (device imei p) t v g j) push stops))
+        (stops_first end v' rest n old.reader mid.reader (at (device imei o) s w f k) (at (device imei p) t v g j) push stops refl))
 
   -- A response.
   pub response_took : (imei : ℕ) (rest : List ℕ) (n : ℕ) (old new : SessionState) (o p : O) (s : S) (w : Option Traffic) (f k : ℕ) → IsReady old → Heard old new rest n Response → new.imei ≡ Some imei → p ≡ told_by m o imei (response_of new.reader.body)

@@ -1,10 +1,10 @@
 -- What is done for the items of a stream, and how it stops.
-use Rattle.std.specs.Prelude.{◌≡◌, ℕ, ◌+◌, ◌<◌, nat_le, Bool, List, [], ◌∷◌, ◌++◌, length, take, Option, Result, Ok, Err, if◌then◌else◌}
+use Rattle.std.specs.Prelude.{◌≡◌, ℕ, ◌+◌, ◌<◌, nat_le, Bool, false, List, [], ◌∷◌, ◌++◌, length, take, Option, Result, Ok, Err, if◌then◌else◌}
 use Rattle.avl_values.specs.declared.fault.Fault.{Fault}
 use Rattle.item_streams.specs.Readers.{Reader}
 use Rattle.links.specs.Links.{Moves, Traffic}
 use Rattle.record_layout.specs.declared.head.PacketHead.{PacketHead}
-use Rattle.frame_layout.specs.Values.{UpValue, packet}
+use Rattle.frame_layout.specs.Values.{UpValue, login, packet}
 use Rattle.shelf.specs.Calls.{AreStored, Call, Feeds}
 use Rattle.shelf.specs.declared.receipt.AdmitFault.{AdmitFault}
 use Rattle.shelf.specs.declared.receipt.AdmitFault.TheVariants as admit
@@ -12,7 +12,7 @@ use Rattle.shelf.specs.declared.receipt.Receipt.{Receipt}
 use Rattle.session_core.specs.declared.served.SessionEnd.{SessionEnd}
 use Rattle.session_core.specs.declared.served.SessionEnd.TheVariants as ends
 use Rattle.session_core.specs.Readings.{Heads, Reads, ReadsFault}
-use Rattle.session_core.specs.Talks.{Meaning, Talk, device, stranger, reply, text, after, packets, stores, records_in}
+use Rattle.session_core.specs.Talks.{Meaning, Talk, nobody, device, stranger, reply, next, text, after, packets, stores, records_in, imei_in, is_stranger}
 
 -- where the work stands: the talk, the archive, what the link tells, and the counts so far with their sum
 pub record Doing (S O : Type 0) : Type 0 where
@@ -65,6 +65,9 @@ module _ {S O : Type 0} (leaves : S → ℕ → List ℕ → Result Receipt Admi
   -- All was done for a login, and its device isn't known.
   pub record IsStranger (imei : ℕ) (v : UpValue) (x y : Doing S O) : Type 0 where
     pub orders : O
+    pub is : v ≡ login imei
+    pub unknown : known imei ≡ false
+    pub before : x.talk ≡ nobody orders
     pub does : Does (v ∷ []) [] x y
     pub talk : y.talk ≡ stranger imei orders
 
@@ -94,12 +97,14 @@ module _ {S O : Type 0} (leaves : S → ℕ → List ℕ → Result Receipt Admi
     pub heads : Heads bytes (dealt ++ at ∷ []) old
     pub does : Does dealt taken x between
     pub stops : StopsAt end at between y
+    pub imei : imei_in y.talk ≡ imei_in (next m known between.talk at)
 
   -- All was done for the items before a fault.
   pub record Breaks (found : Fault) (bytes taken : List ℕ) (old : Reader) (x y : Doing S O) : Type 0 where
     pub dealt : List UpValue
     pub reads : ReadsFault found bytes dealt old
     pub does : Does dealt taken x y
+    pub welcome : is_stranger y.talk ≡ false
 
   -- how a session ends inside a piece
   abbrev pub EndsIn : SessionEnd → List ℕ → List ℕ → Reader → Doing S O → Doing S O → Type 0

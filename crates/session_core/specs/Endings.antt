@@ -7,7 +7,7 @@ use Rattle.shelf.specs.declared.receipt.Receipt.{Receipt}
 use Rattle.session_core.specs.declared.served.SessionEnd.{SessionEnd}
 use Rattle.session_core.specs.declared.served.SessionEnd.TheVariants as ends
 use Rattle.session_core.specs.Doings.{Doing, Goes, Stops, Breaks}
-use Rattle.session_core.specs.Talks.{Meaning, nobody}
+use Rattle.session_core.specs.Talks.{Meaning, nobody, is_stranger}
 
 -- the link is at its end, where it tells its bytes
 abbrev pub IsAtEnd : LinkState → Type 0
@@ -22,6 +22,7 @@ module _ {S O : Type 0} (leaves : S → ℕ → List ℕ → Result Receipt Admi
   pub record DoesAll (bytes : List ℕ) (old new : Reader) (x y : Doing S O) : Type 0 where
     pub goes : Goes leaves m known bytes bytes old new x y
     pub going : new.failed ≡ false
+    pub welcome : is_stranger y.talk ≡ false
 
   abbrev pub Ends : SessionEnd → List ℕ → LinkState → Reader → Reader → Doing S O → Doing S O → Type 0
   Ends ends.Ended bytes link old new x y = DoesAll bytes old new x y × (new.have ≡ []) × IsAtEnd link

@@ -101,6 +101,12 @@ imei_in (nobody o) = None
 imei_in (device imei o) = Some imei
 imei_in (stranger imei o) = Some imei
 
+-- the login was refused
+abbrev pub is_stranger : {O : Type 0} → Talk O → Bool
+is_stranger (nobody o) = false
+is_stranger (device imei o) = false
+is_stranger (stranger imei o) = true
+
 -- how many records these bodies have
 abbrev pub records_in : List (ℕ × List ℕ) → ℕ
 records_in [] = 0

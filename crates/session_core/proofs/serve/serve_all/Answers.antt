@@ -1,11 +1,13 @@
-use Rattle.std.proofs.Common.{◌≡◌, ℕ, ◌-◌, ◌<◌, min, List, ◌++◌, [], refl, length, take, drop, arith, length-append, length-drop}
+use Rattle.std.proofs.Common.{◌≡◌, ℕ, ◌-◌, ◌<◌, min, Bool, ap, ◌∙◌, List, ◌++◌, [], refl, length, take, drop, arith, length-append, length-drop}
 use Rattle.std.proofs.lemmas.List.{length-take-le}
 use Rattle.session_core.specs.Knowing.{knows}
-use Rattle.session_core.specs.Sessions.{talk_of}
+use Rattle.session_core.specs.Sessions.{talk_of, talk_with}
+use Rattle.session_core.specs.Talks.{is_stranger}
 use Rattle.session_core.specs.Works.{meaning, doing}
 use Rattle.session_core.proofs.Going.{goes_none}
 use Rattle.session_core.proofs.Piecing.{step_none, step_some}
 use Rattle.session_core.proofs.Serving.{goes_read, goes_read_none, goes_piece, ends_piece, ends_at_end, read_end, read_size}
+use Rattle.session_core.proofs.Taking.{never_stranger}
 use Rattle.session_core.proofs.serve.serve_all.Goals as goal
 
 pub loop-taken-init : goal.loop-taken-init
@@ -43,6 +45,7 @@ returns-then-n-eq0-clause-ends g c =
           goes = goes_read_none g.A.Admit.leaves m (knows c.args.known.now) bytes c.read.new.into c.in-Ok.n c.args.session.now.reader c.loop-taken.session.reader start (talk_of c.loop-taken.session c.loop-taken.orders) c.loop-taken.shelf
               (g.L.Link.state c.loop-taken.link).told (g.L.Link.state c.read.new.self).told c.loop-taken.tally.frames c.loop-taken.tally.records c.if-n-eq0.true i.goes c.in-Ok.ensures.took;
           going = i.ready.going;
+          welcome = (let e = i.ready.welcome in ap (λ (b : Bool). is_stranger (talk_with c.loop-taken.session.imei b c.loop-taken.orders)) e ∙ never_stranger c.loop-taken.session.imei c.loop-taken.orders);
         })
         (read_end (g.L.Link.state c.loop-taken.link) (g.L.Link.state c.read.new.self) c.in-Ok.n c.read.new.into c.if-n-eq0.true c.in-Ok.ensures.took (c.in-Ok.ensures.end pos) c.in-Ok.ensures.stays_ended))
 

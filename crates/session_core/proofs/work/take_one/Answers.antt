@@ -26,7 +26,7 @@ returns-in-More-clause-did g c =
 pub returns-in-Broken-clause-did : goal.returns-in-Broken-clause-did
 returns-in-Broken-clause-did g c =
     let h = subst (Heard c.args.session.now c.hear-n.new.self c.args.rest.now c.hear-n.result.0) c.in-Broken.is c.hear-n.ensures in
-    broken_took g.A.Admit.leaves (meaning g.O.Orders.gives g.O.Orders.asked g.O.Orders.told) (knows c.args.known.now) c.in-Broken.found c.args.rest.now c.hear-n.result.0 c.args.session.now c.hear-n.new.self c.args.orders.now c.args.shelf.now (g.L.Link.state c.args.link.now).told c.args.tally.now.frames c.args.tally.now.records h
+    broken_took g.A.Admit.leaves (meaning g.O.Orders.gives g.O.Orders.asked g.O.Orders.told) (knows c.args.known.now) c.in-Broken.found c.args.rest.now c.hear-n.result.0 c.args.session.now c.hear-n.new.self c.args.orders.now c.args.shelf.now (g.L.Link.state c.args.link.now).told c.args.tally.now.frames c.args.tally.now.records c.requires.ready h
 
 pub returns-in-Login-clause-did : goal.returns-in-Login-clause-did
 returns-in-Login-clause-did g c =
