@@ -3,6 +3,8 @@ pub mod Endings
 pub mod Givings
 pub mod Knowing
 pub mod Readings
+pub mod Serving
+pub mod SessionCalls
 pub mod Sessions
 pub mod Talks
 pub mod Works

@@ -10,5 +10,6 @@ mod work;
 
 pub use known::{ImeiList, Known};
 pub use orders::{NoOrders, Orders};
+pub use serve::serve_link;
 pub use served::{Served, SessionEnd};
 pub use session::{Session, Step};

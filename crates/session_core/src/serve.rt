@@ -3,7 +3,8 @@ ghost use Rattle.std.specs.Prelude.{◌≡◌, ◌<◌, ◌≤◌, ◌^◌, ℕ,
 ghost use Rattle.avl_values.specs.Causes.{Rose};
 ghost use Rattle.session_core.specs.Endings.{Ends};
 ghost use Rattle.session_core.specs.Knowing.{knows};
-ghost use Rattle.session_core.specs.Sessions.{IsReady, new_session, talk_of};
+ghost use Rattle.session_core.specs.Serving.{IsServed};
+ghost use Rattle.session_core.specs.Sessions.{IsReady, talk_of};
 ghost use Rattle.session_core.specs.Works.{doing, meaning};
 
 use crate::known::Known;
@@ -70,4 +71,43 @@ fn serve_all<L: Link, A: Admit, O: Orders>(
         }
     }
     SessionEnd::LongEnough { taken }
+}
+
+/// Serves a link to its end: hears its bytes, answers the login, admits each packet and then writes its count. After the login's
+/// `01` and after each count it asks `orders` once, and it hands each response to them. NoMemory may come before anything was
+/// taken.
+pub fn serve_link<L: Link, A: Admit, O: Orders>(
+    alloc: Global,
+    link: &mut L,
+    shelf: &mut A,
+    known: &Known,
+    orders: &mut O,
+) -> Served
+    ensures served { IsServed A.leaves A.calls A.mark (meaning O.gives O.asked O.told) (knows known.now) orders.old orders.new shelf.old shelf.new (L.state link.old) (L.state link.new) result }
+    ensures later { (L.state link.old).faults ≤ (L.state link.new).faults }
+    ensures cause { result.end ≡ SessionEnd.LinkFault → Rose (L.state link.old).faults (L.state link.new).faults }
+    ensures follows { L.follows link.old link.new }
+{
+    let mut tally = Tally {
+        frames: 0,
+        records: 0,
+    };
+    let mut session = match Session::new(alloc) {
+        Ok(session) => session,
+        Err(_) => {
+            return Served {
+                imei: None,
+                frames: 0,
+                records: 0,
+                end: SessionEnd::NoMemory,
+            };
+        }
+    };
+    let end = serve_all(link, shelf, known, orders, &mut session, &mut tally);
+    Served {
+        imei: session.imei(),
+        frames: tally.frames,
+        records: tally.records,
+        end,
+    }
 }
