@@ -1,3 +1,4 @@
+pub mod Courses
 pub mod Going
 pub mod Hearing
 pub mod Piecing

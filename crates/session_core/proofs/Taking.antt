@@ -10,6 +10,8 @@ use Rattle.frame_layout.specs.UpRows.{up_rows}
 use Rattle.frame_layout.specs.Values.{UpValue, login, packet, response}
 use Rattle.frame_layout.proofs.PlaceLaws.{up_place}
 use Rattle.frame_channel.specs.UpPushes.{lent_up}
+use Rattle.command_layout.specs.Answers.{value_in}
+use Rattle.command_layout.specs.declared.way.Way.TheVariants as way
 use Rattle.record_layout.specs.declared.head.PacketHead.{PacketHead}
 use Rattle.shelf.specs.declared.receipt.AdmitFault.{AdmitFault}
 use Rattle.shelf.specs.declared.receipt.Receipt.{Receipt}
@@ -20,7 +22,7 @@ use Rattle.session_core.specs.declared.session.Step.TheVariants.{More, Login, Pa
 use Rattle.session_core.specs.Doings.{Doing, counted_in, Does, Goes, Stops, StopsAt, Breaks, IsCut, IsStranger}
 use Rattle.session_core.specs.Readings.{Reads}
 use Rattle.session_core.specs.Sessions.{SessionState, IsReady, Heard, is_there, talk_with, talk_of}
-use Rattle.session_core.specs.Talks.{Meaning, Talk, nobody, device, stranger, reply, next, response_of, told_by, records_in, imei_in, orders_in, is_stranger}
+use Rattle.session_core.specs.Talks.{Meaning, Talk, nobody, device, stranger, reply, next, told_by, records_in, imei_in, orders_in, is_stranger}
 use Rattle.session_core.specs.Works.{Greets, Took}
 use Rattle.session_core.proofs.Going.{does_none, stopped}
 use Rattle.session_core.proofs.Hearing.{frame_stays}
@@ -225,7 +227,7 @@ module _ {S O : Type 0} (leaves : S → ℕ → List ℕ → Result Receipt Admi
         (stops_first end v' rest n old.reader mid.reader (at (device imei o) s w f k) (at (device imei p) t v g j) push stops refl))
 
   -- A response.
-  pub response_took : (imei : ℕ) (rest : List ℕ) (n : ℕ) (old new : SessionState) (o p : O) (s : S) (w : Option Traffic) (f k : ℕ) → IsReady old → Heard old new rest n Response → new.imei ≡ Some imei → p ≡ told_by m o imei (response_of new.reader.body)
+  pub response_took : (imei : ℕ) (rest : List ℕ) (n : ℕ) (old new : SessionState) (o p : O) (s : S) (w : Option Traffic) (f k : ℕ) → IsReady old → Heard old new rest n Response → new.imei ≡ Some imei → p ≡ told_by m o imei (value_in way.Up new.reader.body)
       → Took leaves m known None (take n rest) old new (at (talk_of old o) s w f k) (at (talk_of new p) s w f k)
   response_took imei rest n old new o p s w f k ready h who is =
       let v' : UpValue = response new.reader.body in

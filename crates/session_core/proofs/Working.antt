@@ -11,7 +11,7 @@ use Rattle.command_layout.specs.declared.way.Way.TheVariants.{Up}
 use Rattle.command_layout.specs.CommandRows.{command_verdict}
 use Rattle.command_layout.specs.Values.{CommandValue}
 use Rattle.command_layout.proofs.CommandLaws.{command_whole}
-use Rattle.layout.specs.Rows.{Verdict, whole, fault}
+use Rattle.layout.specs.Rows.{whole}
 use Rattle.record_layout.specs.RecordsOf.{records_of}
 use Rattle.record_layout.specs.declared.head.PacketHead.{PacketHead}
 use Rattle.frame_layout.specs.Readings.{IsFramedCommand}
@@ -33,13 +33,9 @@ sent_part (Ok done) P e is = absurd cc
 sent_part (Err found) P e is = is
 
 -- A response is read whole.
-
 pub response_reads : (body : List ℕ) → IsFramedCommand Up body → (v : CommandValue) × (command_verdict Up (length body) body ≡ whole v (length body))
 response_reads body f =
     (f.value, ap (command_verdict Up (length body)) (sym (append-nil body)) ∙ command_whole Up f.value body [] f.is)
-
-pub no_response_breaks : (body : List ℕ) (found : Verdict CommandValue) → IsFramedCommand Up body → command_verdict Up (length body) body ≡ found → (v : CommandValue) × (found ≡ whole v (length body))
-no_response_breaks body found f is = let r = response_reads body f in (r.0, sym is ∙ r.1)
 
 -- A login.
 

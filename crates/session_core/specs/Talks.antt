@@ -1,10 +1,9 @@
 -- What a server says to the items of a stream up (Teltonika, Data Sending Protocols, "Codec 8 protocol sending over TCP": a
 -- login is answered by 1 or 0, and a data frame by its number of records; when orders are given is this project's own).
 use Rattle.std.specs.Prelude.{ℕ, ◌+◌, Bool, true, false, List, [], ◌∷◌, ◌++◌, length, Option, Some, None, if◌then◌else◌}
-use Rattle.layout.specs.Rows.{Verdict, whole, short, fault}
 use Rattle.record_layout.specs.RecordsOf.{records_of}
 use Rattle.command_layout.specs.declared.way.Way.TheVariants.{Up}
-use Rattle.command_layout.specs.CommandRows.{command_verdict}
+use Rattle.command_layout.specs.Answers.{value_in}
 use Rattle.command_layout.specs.Values.{CommandValue}
 use Rattle.frame_layout.specs.Items.{count_bytes}
 use Rattle.frame_layout.specs.Values.{UpValue, login, packet, response}
@@ -30,16 +29,6 @@ or_nothing (Some frame) = frame
 abbrev pub count_for : List ℕ → List ℕ
 count_for body = count_bytes (length (records_of body))
 
--- what a whole body says
-abbrev pub said_by : Verdict CommandValue → Option CommandValue
-said_by (whole v n) = Some v
-said_by short = None
-said_by (fault kind place) = None
-
--- what a response says
-abbrev pub response_of : List ℕ → Option CommandValue
-response_of body = said_by (command_verdict Up (length body) body)
-
 -- the orders after a response was heard
 abbrev pub told_by : {O : Type 0} → Meaning O → O → ℕ → Option CommandValue → O
 told_by m o imei None = o
@@ -63,7 +52,7 @@ module _ {O : Type 0} (m : Meaning O) (known : ℕ → Bool) where
   next (nobody o) (response body) = nobody o
   next (device imei o) (login other) = device imei o
   next (device imei o) (packet head body) = device imei (m.asked o imei)
-  next (device imei o) (response body) = device imei (told_by m o imei (response_of body))
+  next (device imei o) (response body) = device imei (told_by m o imei (value_in Up body))
   next (stranger imei o) v = stranger imei o
 
   -- the bodies that an item gives to the archive, each with its device

@@ -6,11 +6,12 @@ ghost use Rattle.record_layout.specs.declared.head.PacketHead.{PacketHead};
 ghost use Rattle.record_layout.specs.RecordsOf.{count_of};
 ghost use Rattle.frame_layout.specs.Readings.{IsFramedPacket, IsFramedCommand};
 ghost use Rattle.frame_layout.specs.Values.{login, packet};
+ghost use Rattle.command_layout.specs.Answers.{value_in};
 ghost use Rattle.command_layout.specs.declared.way.Way.TheVariants.{Up};
 ghost use Rattle.session_core.specs.Doings.{Does, StopsAt};
 ghost use Rattle.session_core.specs.Knowing.{knows};
 ghost use Rattle.session_core.specs.Sessions.{IsReady, Owes, talk_of};
-ghost use Rattle.session_core.specs.Talks.{device, nobody, or_nothing, response_of, told_by};
+ghost use Rattle.session_core.specs.Talks.{device, nobody, or_nothing, told_by};
 ghost use Rattle.session_core.specs.Works.{Greets, Took, doing, meaning};
 
 use crate::known::Known;
@@ -78,7 +79,7 @@ fn greet<L: Link, O: Orders>(
 // Tells the orders of a response.
 fn tell<O: Orders>(orders: &mut O, imei: Imei, body: &[u8])
     requires { IsFramedCommand Up body.now }
-    ensures { orders.new ≡ told_by (meaning O.gives O.asked O.told) orders.old imei (response_of body.now) }
+    ensures { orders.new ≡ told_by (meaning O.gives O.asked O.told) orders.old imei (value_in Up body.now) }
 {
     match read_command(body, Way::Up) {
         Ok(response) => orders.heard(imei, &response),

@@ -1,7 +1,5 @@
 use Rattle.std.proofs.Common.{◌≡◌, List, ℕ, Ok, sym, ap, subst, ◌∙◌}
 use Rattle.record_layout.specs.RecordsOf.{count_of}
-use Rattle.record_layout.proofs.BodyLaws.{body_judged}
-use Rattle.shelf.specs.Shelf.{IsAccepted}
 use Rattle.session_core.specs.Works.{meaning}
 use Rattle.session_core.proofs.Working.{packet_done, count_cut, order_cut, sent_whole, sent_part}
 use Rattle.session_core.proofs.work.store.Goals as goal
@@ -9,8 +7,7 @@ use Rattle.session_core.proofs.work.store.Goals as goal
 pub admit-requires-clause-accepted : goal.admit-requires-clause-accepted
 admit-requires-clause-accepted g c =
     let framed = c.requires.framed in
-    let accepted : IsAccepted c.args.session.now.reader.body = record { head = framed.0; is = body_judged framed.0 c.args.session.now.reader.body framed.1.is } in
-    subst IsAccepted (sym c.body.ensures) accepted
+    (framed.0, rw c.body.ensures framed.1.is)
 
 pub returns-then-is_err-clause-stopped : goal.returns-then-is_err-clause-stopped
 returns-then-is_err-clause-stopped g c = λ known head.

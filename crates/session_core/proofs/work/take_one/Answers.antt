@@ -3,7 +3,9 @@ use Rattle.frame_layout.specs.Values.{packet}
 use Rattle.session_core.specs.Works.{meaning}
 use Rattle.session_core.specs.Knowing.{knows}
 use Rattle.session_core.specs.Sessions.{Heard}
-use Rattle.session_core.specs.Talks.{response_of, told_by}
+use Rattle.command_layout.specs.Answers.{value_in}
+use Rattle.command_layout.specs.declared.way.Way.TheVariants.{Up}
+use Rattle.session_core.specs.Talks.{told_by}
 use Rattle.session_core.specs.declared.session.Step.TheVariants.{More, Login, Packet, Response, Broken}
 use Rattle.session_core.proofs.Taking.{more_took, broken_took, login_took, packet_took, response_took, packet_has_imei, response_has_imei}
 use Rattle.session_core.proofs.work.take_one.Goals as goal
@@ -46,4 +48,4 @@ returns-in-Some-imei-clause-did g c =
     let h = subst (Heard c.args.session.now c.hear-n.new.self c.args.rest.now c.hear-n.result.0) c.in-Response.is c.hear-n.ensures in
     response_took g.A.Admit.leaves (meaning g.O.Orders.gives g.O.Orders.asked g.O.Orders.told) (knows c.args.known.now) c.in-Some-imei.imei c.args.rest.now c.hear-n.result.0 c.args.session.now c.hear-n.new.self c.args.orders.now c.tell.new.orders c.args.shelf.now (g.L.Link.state c.args.link.now).told c.args.tally.now.frames c.args.tally.now.records c.requires.ready h
       (sym c.imei-in-Response.ensures ∙ c.in-Some-imei.is)
-      (c.tell.ensures ∙ ap (λ b. told_by (meaning g.O.Orders.gives g.O.Orders.asked g.O.Orders.told) c.args.orders.now c.in-Some-imei.imei (response_of b)) c.body.ensures)
+      (c.tell.ensures ∙ ap (λ b. told_by (meaning g.O.Orders.gives g.O.Orders.asked g.O.Orders.told) c.args.orders.now c.in-Some-imei.imei (value_in Up b)) c.body.ensures)
