@@ -95,7 +95,7 @@ module _ {O : Type 0} (m : Meaning O) (known : ℕ → Bool) where
   device_bodies imei o (response body ∷ vs) = device_bodies imei _ vs
 
   -- with a stranger
-  stranger_stays : (imei : ℕ) (o : O) (vs : List UpValue) → after m known (stranger imei o) vs ≡ stranger imei o
+  pub stranger_stays : (imei : ℕ) (o : O) (vs : List UpValue) → after m known (stranger imei o) vs ≡ stranger imei o
   stranger_stays imei o [] = refl
   stranger_stays imei o (v ∷ vs) = stranger_stays imei o vs
 

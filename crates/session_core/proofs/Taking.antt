@@ -90,9 +90,10 @@ module _ {S O : Type 0} (leaves : S → ℕ → List ℕ → Result Receipt Admi
       → Took leaves m known None (take n rest) old new (at (talk_of old o) s w f k) (at (talk_of new o) s w f k)
   more_took rest n old new o s w f k ready h =
       let p = pushed_as old.reader new.reader rest n h.decided more h.says h.pushed in
-      took_as None (take n rest) old new s s w w f k f k (talk_of old o) (talk_of old o) (talk_of new o) (talk_of old o) refl (ap (λ (x : Option ℕ × Bool). talk_with x.0 x.1 o) (λ i. (h.imei i, h.refused i)))
-      (record { answered = h.owes; going = more_goes old.reader new.reader rest n ready.going p; welcome = h.refused ∙ ready.welcome },
-       record { said = []; reads = reads_push old.reader new.reader rest n more p; does = does_none leaves m known (at (talk_of old o) s w f k) })
+      took_as None (take n rest) old new s s w w f k f k (talk_of old o) (talk_of old o) (talk_of new o) (talk_of old o) refl (ap (λ (x : Option ℕ × Bool). talk_with x.0 x.1 o) (λ i. (h.imei i, h.refused i))) (
+        record { answered = h.owes; going = more_goes old.reader new.reader rest n ready.going p; welcome = h.refused ∙ ready.welcome },
+        record { said = []; reads = reads_push old.reader new.reader rest n more p; does = does_none leaves m known (at (talk_of old o) s w f k) },
+      )
 
   -- A fault.
   pub broken_took : (found : Fault) (rest : List ℕ) (n : ℕ) (old new : SessionState) (o : O) (s : S) (w : Option Traffic) (f k : ℕ) → IsReady old → Heard old new rest n (Broken found)
@@ -105,7 +106,9 @@ module _ {S O : Type 0} (leaves : S → ℕ → List ℕ → Result Receipt Admi
   -- one item stands first
   stops_first : (end : SessionEnd) (v : UpValue) (rest : List ℕ) (n : ℕ) (old new : Reader) (x y : Doing S O) → Pushed up_rows lent_up old new rest n (item v) → StopsAt leaves m known end v x y → imei_in y.talk ≡ imei_in (next m known x.talk v) → Stops leaves m known end (take n rest) [] old x y
   stops_first end v rest n old new x y p stops imei = record {
-    dealt = []; at = v; between = x;
+    dealt = [];
+    at = v;
+    between = x;
     heads = heads_read (take n rest) (v ∷ []) old new (reads_push old new rest n (item v) p);
     does = does_none leaves m known x;
     stops = stops;
@@ -126,9 +129,11 @@ module _ {S O : Type 0} (leaves : S → ℕ → List ℕ → Result Receipt Admi
   welcomed imei o p s w v f k is asked move = record {
     talk = ap (λ (q : O). device imei q) asked ∙ ap (λ (b : Bool). if b then device imei (m.asked o imei) else stranger imei o) (sym is);
     wire = moves_as [] (reply m known (nobody o) (login imei)) [] (reply m known (nobody o) (login imei) ++ []) w v refl (sym (append-nil (reply m known (nobody o) (login imei)))) move;
-    calls = []; feeds = refl;
+    calls = [];
+    feeds = refl;
     stored = tt;
-    frames = sym (add-zero f); records = sym (add-zero k);
+    frames = sym (add-zero f);
+    records = sym (add-zero k);
   }
 
   sent_away : (imei who : ℕ) (o p : O) (s : S) (w v : Option Traffic) (f k : ℕ) → known imei ≡ false → p ≡ o → who ≡ imei → Moves [] (reply m known (nobody o) (login imei)) w v
@@ -141,9 +146,11 @@ module _ {S O : Type 0} (leaves : S → ℕ → List ℕ → Result Receipt Admi
     does = record {
       talk = ap (λ (q : O). stranger imei q) same ∙ ap (λ (b : Bool). if b then device imei (m.asked o imei) else stranger imei o) (sym is);
       wire = moves_as [] (reply m known (nobody o) (login imei)) [] (reply m known (nobody o) (login imei) ++ []) w v refl (sym (append-nil (reply m known (nobody o) (login imei)))) move;
-      calls = []; feeds = refl;
+      calls = [];
+      feeds = refl;
       stored = tt;
-      frames = sym (add-zero f); records = sym (add-zero k);
+      frames = sym (add-zero f);
+      records = sym (add-zero k);
     };
     talk = ap (λ (i : ℕ). stranger i p) (sym which);
   }
@@ -166,15 +173,16 @@ module _ {S O : Type 0} (leaves : S → ℕ → List ℕ → Result Receipt Admi
       let who : new.imei ≡ Some imei = ap (λ (x : SessionState). x.imei) is ∙ h.imei in
       let welcome : new.refused ≡ false = ap (λ (x : SessionState). x.refused) is ∙ ap not g.2 in
       took_as None (take n rest) old new s s w v f k f k (talk_of old o) (nobody o) (talk_of new p) (device imei p)
-      (ap (λ (x : Option ℕ). talk_with x old.refused o) (login_has_none old mid rest n imei h)) (ap (λ (x : Option ℕ × Bool). talk_with x.0 x.1 p) (λ i. (who i, welcome i)))
-      (record { answered = ap (λ (x : SessionState). x.owes) is; going = ap (λ (x : Reader). x.failed) reader ∙ item_goes old.reader mid.reader rest n (login imei) ready.going push; welcome = welcome },
-       record { said = login imei ∷ []; reads = subst (λ (x : Reader). Reads (take n rest) (login imei ∷ []) old.reader x) (sym reader) (reads_push old.reader mid.reader rest n (item (login imei)) push); does = welcomed imei o p s w v f k g.2 g.1 g.0 })
+      (ap (λ (x : Option ℕ). talk_with x old.refused o) (login_has_none old mid rest n imei h)) (ap (λ (x : Option ℕ × Bool). talk_with x.0 x.1 p) (λ i. (who i, welcome i))) (
+        record { answered = ap (λ (x : SessionState). x.owes) is; going = ap (λ (x : Reader). x.failed) reader ∙ item_goes old.reader mid.reader rest n (login imei) ready.going push; welcome = welcome },
+        record { said = login imei ∷ []; reads = subst (λ (x : Reader). Reads (take n rest) (login imei ∷ []) old.reader x) (sym reader) (reads_push old.reader mid.reader rest n (item (login imei)) push); does = welcomed imei o p s w v f k g.2 g.1 g.0 },
+      )
   login_took imei rest n old mid new o p s w v f k (Some ends.LinkFault) ready h is g =
       let push = pushed_as old.reader mid.reader rest n h.decided (item (login imei)) h.says h.pushed in
       took_as (Some ends.LinkFault) (take n rest) old new s s w v f k f k (talk_of old o) (nobody o) (talk_of new p) (talk_of new p)
       (ap (λ (x : Option ℕ). talk_with x old.refused o) (login_has_none old mid rest n imei h)) refl
       (stops_first ends.LinkFault (login imei) rest n old.reader mid.reader (at (nobody o) s w f k) (at (talk_of new p) s v f k) push
-        (record { part = g.0; within = g.1; wire = g.2; calls = []; feeds = refl; stored = tt; frames = cut_frames f g.0; records = cut_records k g.0 }) (talk_imei new.imei new.refused p ∙ (ap (λ (x : SessionState). x.imei) is ∙ (h.imei ∙ sym (logged_in imei o)))))
+      (record { part = g.0; within = g.1; wire = g.2; calls = []; feeds = refl; stored = tt; frames = cut_frames f g.0; records = cut_records k g.0 }) (talk_imei new.imei new.refused p ∙ (ap (λ (x : SessionState). x.imei) is ∙ (h.imei ∙ sym (logged_in imei o)))))
   login_took imei rest n old mid new o p s w v f k (Some (ends.Unknown who)) ready h is g =
       let push = pushed_as old.reader mid.reader rest n h.decided (item (login imei)) h.says h.pushed in
       let there : new.imei ≡ Some imei = ap (λ (x : SessionState). x.imei) is ∙ h.imei in
@@ -215,16 +223,17 @@ module _ {S O : Type 0} (leaves : S → ℕ → List ℕ → Result Receipt Admi
       let push = pushed_as old.reader mid.reader rest n h.decided (item v') h.says.is h.pushed in
       let reader : new.reader ≡ mid.reader = ap (λ (x : SessionState). x.reader) is in
       let a : Answered imei old mid new = record { before = sym h.imei ∙ who; after = same.0 ∙ who; welcome_before = ready.welcome; welcome_after = same.1 ∙ (h.refused ∙ ready.welcome) } in
-      device_took None imei (take n rest) old mid new o p s t w v f k g j a
-      (record { answered = ap (λ (x : SessionState). x.owes) is; going = ap (λ (x : Reader). x.failed) reader ∙ item_goes old.reader mid.reader rest n v' ready.going push; welcome = a.welcome_after },
-       record { said = v' ∷ []; reads = subst (λ (x : Reader). Reads (take n rest) (v' ∷ []) old.reader x) (sym reader) (reads_push old.reader mid.reader rest n (item v') push); does = does })
+      device_took None imei (take n rest) old mid new o p s t w v f k g j a (
+        record { answered = ap (λ (x : SessionState). x.owes) is; going = ap (λ (x : Reader). x.failed) reader ∙ item_goes old.reader mid.reader rest n v' ready.going push; welcome = a.welcome_after },
+        record { said = v' ∷ []; reads = subst (λ (x : Reader). Reads (take n rest) (v' ∷ []) old.reader x) (sym reader) (reads_push old.reader mid.reader rest n (item v') push); does = does },
+      )
   packet_took imei rest n old mid new o p s t w v f k g j (Some end) ready h who same is does stops =
       let v' : UpValue = packet h.says.head mid.reader.body in
       let push = pushed_as old.reader mid.reader rest n h.decided (item v') h.says.is h.pushed in
       let a : Answered imei old mid new = record { before = sym h.imei ∙ who; after = same.0 ∙ who; welcome_before = ready.welcome; welcome_after = same.1 ∙ (h.refused ∙ ready.welcome) } in
       device_took (Some end) imei (take n rest) old mid new o p s t w v f k g j a
       (stopped leaves m known end (take n rest) [] old.reader (at (device imei o) s w f k) (at (device imei p) t v g j)
-        (stops_first end v' rest n old.reader mid.reader (at (device imei o) s w f k) (at (device imei p) t v g j) push stops refl))
+      (stops_first end v' rest n old.reader mid.reader (at (device imei o) s w f k) (at (device imei p) t v g j) push stops refl))
 
   -- A response.
   pub response_took : (imei : ℕ) (rest : List ℕ) (n : ℕ) (old new : SessionState) (o p : O) (s : S) (w : Option Traffic) (f k : ℕ) → IsReady old → Heard old new rest n Response → new.imei ≡ Some imei → p ≡ told_by m o imei (value_in way.Up new.reader.body)
@@ -233,10 +242,11 @@ module _ {S O : Type 0} (leaves : S → ℕ → List ℕ → Result Receipt Admi
       let v' : UpValue = response new.reader.body in
       let push = pushed_as old.reader new.reader rest n h.decided (item v') h.says.is h.pushed in
       let a : Answered imei old new new = record { before = sym h.imei ∙ who; after = who; welcome_before = ready.welcome; welcome_after = h.refused ∙ ready.welcome } in
-      device_took None imei (take n rest) old new new o p s s w w f k f k a
-      (record { answered = h.owes; going = item_goes old.reader new.reader rest n v' ready.going push; welcome = a.welcome_after },
-       record {
-         said = v' ∷ [];
-         reads = reads_push old.reader new.reader rest n (item v') push;
-         does = record { talk = ap (λ (q : O). device imei q) is; wire = moves_none w; calls = []; feeds = refl; stored = tt; frames = sym (add-zero f); records = sym (add-zero k) };
-       })
+      device_took None imei (take n rest) old new new o p s s w w f k f k a (
+        record { answered = h.owes; going = item_goes old.reader new.reader rest n v' ready.going push; welcome = a.welcome_after },
+        record {
+          said = v' ∷ [];
+          reads = reads_push old.reader new.reader rest n (item v') push;
+          does = record { talk = ap (λ (q : O). device imei q) is; wire = moves_none w; calls = []; feeds = refl; stored = tt; frames = sym (add-zero f); records = sym (add-zero k) };
+        },
+      )

@@ -46,4 +46,4 @@ returns-in-Some-clause-did g c =
     let mid = doing (talk_of c.loop-at.session c.loop-at.orders) c.loop-at.shelf (g.L.Link.state c.loop-at.link) c.loop-at.tally in
     let end = doing (talk_of c.take_one-n.new.session c.take_one-n.new.orders) c.take_one-n.new.shelf (g.L.Link.state c.take_one-n.new.link) c.take_one-n.new.tally in
     piece_ends g.A.Admit.leaves m (knows c.args.known.now) c.args.piece.now c.loop-at.at c.take_one-n.result.0 c.take_one-n.result.1 c.in-Some.end c.args.session.now.reader c.loop-at.session c.take_one-n.new.session start mid end
-      c.loop-at.invariant.goes c.in-Some.is c.take_one-n.ensures.did
+    c.loop-at.invariant.goes c.in-Some.is c.take_one-n.ensures.did
