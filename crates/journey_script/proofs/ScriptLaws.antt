@@ -321,7 +321,7 @@ ordered_step before line h none =
     let opens : filter_map opening_of (before ++ line ∷ []) ≡ filter_map opening_of before ++ filter_map opening_of (line ∷ []) = filter_map-append opening_of before (line ∷ []) in
     let step = imeis_step before line h none in
     let all = all_append (λ (o : Opening). is_among o.imei (imeis before) ≡ true) (filter_map opening_of before) (filter_map opening_of (line ∷ [])) h.placed
-        (all_there before (filter_map opening_of (line ∷ [])) h.enrolled (opened_there before line none)) in
+    (all_there before (filter_map opening_of (line ∷ [])) h.enrolled (opened_there before line none)) in
     record {
       enrolled = λ imei. ap (is_among imei) push ∙ enrolled_step before line imei (h.enrolled imei)
           ∙ ap (λ (e : Option Enrolled). is_some e) (sym (fold-append (enrolled_after imei) None before (line ∷ [])));

@@ -5,153 +5,117 @@ use std::test::Fail;
 
 const DEVICE: &str = "device 356307042441013 8 16 oldest 1000 0 0 0 known\n";
 
-/// The numbers of a script's lines, or its first fault.
+/// The numbers of a script's lines, or its first fault, after a space each.
 fn told(alloc: Global, text: &[u8]) -> Result<String, NoMemory> {
     let script = match read_script(alloc, text) {
         Ok(script) => script,
-        Err(fault) => return Ok(format!(in alloc; "{fault}")?),
+        Err(fault) => return Ok(format!(in alloc; " {fault}")?),
     };
     let mut told = String::new(alloc);
     for i in 0..script.len() {
         let number = script.number_at(i);
-        told.push_str(format!(in alloc; "{number} ")?.as_str())?;
+        told.push_str(format!(in alloc; " {number}")?.as_str())?;
     }
     Ok(told)
 }
 
-/// A text with the device's line in front.
-fn after_device(alloc: Global, text: &str) -> Result<String, NoMemory> {
-    let text = format!(in alloc; "{DEVICE}{text}")?;
-    told(alloc, text.as_bytes())
+/// Texts, and what is told of them. `/` stands for LF, and `DEV` for the device's line.
+const TEXTS: &str = "\
+ =>
+//# a word/ =>
+  => line 1 UnknownWord
+fix 356307042441013 0 0 0 0 0 0 0 0 => line 1 NoDevice
+device 356307042441013 8 0 oldest 0 0 0 0 known => line 1 BadNumber
+device 356307042441013 8 4097 oldest 0 0 0 0 known => line 1 BadNumber
+device 35630704244101 8 0 oldest 0 0 0 0 known => line 1 BadImei
+device server 8 1 oldest 0 0 0 0 known => line 1 BadImei
+device 356307042441013 7 0 oldest 0 0 0 0 known => line 1 BadChoice
+device 356307042441013 8 0 eldest 0 0 0 0 known => line 1 BadNumber
+device 356307042441013 8E 9 newest 0 0 0 0 Known => line 1 BadChoice
+device 356307042441013 16 9 newest 0 0 0 0 => line 1 FieldCount
+devise 356307042441013 => line 1 UnknownWord
+fuse server 1000001 open => line 1 BadNumber
+fuse server 1 opened => line 1 BadChoice
+close 1 => line 1 NoConnection
+late 0 - => line 1 NoConnection
+late 4294967296 x => line 1 BadNumber
+power device => line 1 BadImei
+power 356307042441013 => line 1 NoDevice
+DEV/fixx 356307042441013 => line 2 UnknownWord
+DEV/late 1 - => line 2 NoConnection
+DEV/DEV => line 2 TwiceDevice
+DEV/round 356307042441013 65536 - 0//late 1 5/close 1/close 2 => line 6 NoConnection
+DEV/round 356307042441013 0 x - => line 2 BadNumber
+DEV/round 356307042441013 1 - 4294967296 => line 2 BadNumber
+DEV/drain 356307042441014 1 => line 2 NoDevice
+DEV/fix 356307042441013 18446744073709551615 -2147483648 2147483647 -32768 65535 255 65535 18446744073709551615 => 1 2
+DEV/fix 356307042441013 18446744073709551616 0 0 0 0 0 0 0 => line 2 BadNumber
+DEV/fix 356307042441013 00 0 0 0 0 0 0 0 => line 2 BadNumber
+DEV/fix 356307042441013 0 -0 0 0 0 0 0 0 => line 2 BadNumber
+DEV/fix 356307042441013 0 - 0 0 0 0 0 0 => line 2 BadNumber
+DEV/fix 356307042441013 0 0 2147483648 0 0 0 0 0 => line 2 BadNumber
+DEV/fix 356307042441013 0 0 0 -32769 0 0 0 0 => line 2 BadNumber
+DEV/fix 356307042441013 0 0 0 0 0 256 0 0 => line 2 BadNumber
+DEV/fix 356307042441013 0 0 0 0 0 0 0 => line 2 FieldCount
+DEV/fix 356307042441013 0 0 0 0 0 0 0 0  => line 2 BadNumber
+DEV/fix 356307042441013 0 0 0 0 0 0 0 0 1 => line 2 ValueCount
+DEV/fix 356307042441014 0 0 0 0 0 0 0 0 1 x => line 2 BadNumber
+DEV/io 356307042441013 1 1 change 0 0 0/fix 356307042441013 0 0 0 0 0 0 0 0 255/power server => 1 2 3 4
+DEV/io 356307042441013 1 1 change 0 0 0/fix 356307042441013 0 0 0 0 0 0 0 0 256 => line 3 ValueTooWide
+DEV/io 356307042441013 1 1 change 0 0 0/fix 356307042441013 0 0 0 0 0 0 0 0 => line 3 ValueCount
+DEV/io 356307042441013 1 3 change 0 0 0 => line 2 BadSetting
+DEV/io 356307042441013 256 1 change 0 0 0 => line 2 BadSetting
+DEV/io 356307042441013 1 256 chance 0 0 0 => line 2 BadNumber
+DEV/io 356307042441014 1 3 change 0 0 0 => line 2 NoDevice
+DEV/power 356307042441013/io 356307042441013 1 3 change 0 0 0 => line 3 SettingsClosed
+DEV/fuse 356307042441013 0 keep/io 356307042441013 1 1 exit 0 0 0 => line 3 SettingsClosed
+DEV/power server/io 356307042441013 1 1 hysteresis 0 0 0 => 1 2 3
+";
+
+/// The text that a row stands for.
+fn text_of(alloc: Global, row: &str) -> Result<String, NoMemory> {
+    let mut text = String::new(alloc);
+    for line in row.split('/') {
+        match line {
+            "DEV" => text.push_str(DEVICE)?,
+            _ => text.push_str(format!(in alloc; "{line}\n")?.as_str())?,
+        }
+    }
+    Ok(text)
 }
 
 #[test]
-fn texts_alone(rt: HostRuntime) -> Result<(), Fail> {
-    for (text, wanted) in [
-        (b"".as_slice(), ""),
-        (b"\n\n# a word\n", ""),
-        (b"\r\n#\r\n\r", "line 3 UnknownWord"),
-        (b" ", "line 1 UnknownWord"),
-        (b"\xff\x00", "line 1 UnknownWord"),
-        (b"fix 356307042441013 0 0 0 0 0 0 0 0", "line 1 NoDevice"),
-        (
-            b"device 356307042441013 8 0 oldest 0 0 0 0 known",
-            "line 1 BadNumber",
-        ),
-        (
-            b"device 356307042441013 8 4097 oldest 0 0 0 0 known",
-            "line 1 BadNumber",
-        ),
-        (
-            b"device 35630704244101 8 0 oldest 0 0 0 0 known",
-            "line 1 BadImei",
-        ),
-        (b"device server 8 1 oldest 0 0 0 0 known", "line 1 BadImei"),
-        (
-            b"device 356307042441013 7 0 oldest 0 0 0 0 known",
-            "line 1 BadChoice",
-        ),
-        (
-            b"device 356307042441013 8 0 eldest 0 0 0 0 known",
-            "line 1 BadNumber",
-        ),
-        (
-            b"device 356307042441013 8E 9 newest 0 0 0 0 Known",
-            "line 1 BadChoice",
-        ),
-        (
-            b"device 356307042441013 16 9 newest 0 0 0 0",
-            "line 1 FieldCount",
-        ),
-        (b"devise 356307042441013", "line 1 UnknownWord"),
-        (
-            b"power server\nfuse server 1000000 open\r\n\n#\nfuse server 0 half",
-            "1 2 5 ",
-        ),
-        (b"fuse server 1000001 open", "line 1 BadNumber"),
-        (b"fuse server 1 opened", "line 1 BadChoice"),
-        (b"close 1", "line 1 NoConnection"),
-        (b"late 0 -", "line 1 NoConnection"),
-        (b"late 4294967296 x", "line 1 BadNumber"),
-        (b"power device", "line 1 BadImei"),
-        (b"power 356307042441013", "line 1 NoDevice"),
-    ] {
-        assert_eq!(rt; told(rt.alloc(), text)?.as_str(), wanted);
+fn texts_and_their_first_faults(rt: HostRuntime) -> Result<(), Fail> {
+    for row in TEXTS.lines() {
+        if let Some((row, wanted)) = row.split_once(" =>") {
+            let text = text_of(rt.alloc(), row)?;
+            assert_eq!(rt;
+                told(rt.alloc(), text.as_str().as_bytes())?.as_str(),
+                wanted,
+                "{row}"
+            );
+        }
     }
     Ok(())
 }
 
 #[test]
-fn texts_after_a_device(rt: HostRuntime) -> Result<(), Fail> {
-    for (text, wanted) in [
-        ("fixx 356307042441013", "line 2 UnknownWord"),
-        ("late 1 -", "line 2 NoConnection"),
-        (DEVICE, "line 2 TwiceDevice"),
-        (
-            "round 356307042441013 65536 - 0\n\nlate 1 5\nclose 1\nclose 2",
-            "line 6 NoConnection",
-        ),
-        ("round 356307042441013 0 x -", "line 2 BadNumber"),
-        ("round 356307042441013 1 - 4294967296", "line 2 BadNumber"),
-        ("drain 356307042441014 1", "line 2 NoDevice"),
-        (
-            "fix 356307042441013 18446744073709551615 -2147483648 2147483647 -32768 65535 255 65535 18446744073709551615",
-            "1 2 ",
-        ),
-        (
-            "fix 356307042441013 18446744073709551616 0 0 0 0 0 0 0",
-            "line 2 BadNumber",
-        ),
-        ("fix 356307042441013 00 0 0 0 0 0 0 0", "line 2 BadNumber"),
-        ("fix 356307042441013 0 -0 0 0 0 0 0 0", "line 2 BadNumber"),
-        ("fix 356307042441013 0 - 0 0 0 0 0 0", "line 2 BadNumber"),
-        (
-            "fix 356307042441013 0 0 2147483648 0 0 0 0 0",
-            "line 2 BadNumber",
-        ),
-        (
-            "fix 356307042441013 0 0 0 -32769 0 0 0 0",
-            "line 2 BadNumber",
-        ),
-        ("fix 356307042441013 0 0 0 0 0 256 0 0", "line 2 BadNumber"),
-        ("fix 356307042441013 0 0 0 0 0 0 0", "line 2 FieldCount"),
-        ("fix 356307042441013 0 0 0 0 0 0 0 0 ", "line 2 BadNumber"),
-        ("fix 356307042441013 0 0 0 0 0 0 0 0 1", "line 2 ValueCount"),
-        (
-            "fix 356307042441014 0 0 0 0 0 0 0 0 1 x",
-            "line 2 BadNumber",
-        ),
-        (
-            "io 356307042441013 1 1 change 0 0 0\nfix 356307042441013 0 0 0 0 0 0 0 0 255\npower server",
-            "1 2 3 4 ",
-        ),
-        (
-            "io 356307042441013 1 1 change 0 0 0\nfix 356307042441013 0 0 0 0 0 0 0 0 256",
-            "line 3 ValueTooWide",
-        ),
-        (
-            "io 356307042441013 1 1 change 0 0 0\nfix 356307042441013 0 0 0 0 0 0 0 0",
-            "line 3 ValueCount",
-        ),
-        ("io 356307042441013 1 3 change 0 0 0", "line 2 BadSetting"),
-        ("io 356307042441013 256 1 change 0 0 0", "line 2 BadSetting"),
-        ("io 356307042441013 1 256 chance 0 0 0", "line 2 BadNumber"),
-        ("io 356307042441014 1 3 change 0 0 0", "line 2 NoDevice"),
-        (
-            "power 356307042441013\nio 356307042441013 1 3 change 0 0 0",
-            "line 3 SettingsClosed",
-        ),
-        (
-            "fuse 356307042441013 0 keep\nio 356307042441013 1 1 exit 0 0 0",
-            "line 3 SettingsClosed",
-        ),
-        (
-            "power server\nio 356307042441013 1 1 hysteresis 0 0 0",
-            "1 2 3 ",
-        ),
-    ] {
-        assert_eq!(rt; after_device(rt.alloc(), text)?.as_str(), wanted);
-    }
+fn bytes_in_odd_places(rt: HostRuntime) -> Result<(), Fail> {
+    assert_eq!(rt; told(rt.alloc(), b"")?.as_str(), "");
+    assert_eq!(rt;
+        told(rt.alloc(), b"\xff\x00")?.as_str(),
+        " line 1 UnknownWord"
+    );
+    assert_eq!(rt;
+        told(rt.alloc(), b"\r\n#\r\n\r")?.as_str(),
+        " line 3 UnknownWord"
+    );
+    let ends = b"power server\nfuse server 1000000 open\r\n\n#\nfuse server 0 half";
+    assert_eq!(rt; told(rt.alloc(), ends)?.as_str(), " 1 2 5");
+    assert_eq!(rt;
+        told(rt.alloc(), b"fuse server 1 open\r\r\n")?.as_str(),
+        " line 1 BadChoice"
+    );
     Ok(())
 }
 
@@ -252,7 +216,7 @@ fn refuses_a_long_text(rt: HostRuntime) -> Result<(), Fail> {
     let too_long = vec![in rt.alloc(); b'#'; 0x100_0001]?;
     assert_eq!(rt;
         told(rt.alloc(), too_long.as_slice())?.as_str(),
-        "line 0 TextTooLong"
+        " line 0 TextTooLong"
     );
     Ok(())
 }
