@@ -8,6 +8,7 @@ use shelf::{Admit, AdmitFault, Receipt};
 use std::sync::Wait;
 
 /// A seat at its desk, to which a session admits as to a shelf. Each call may wait for its turn.
+#[derive(Drop)]
 pub struct DeskSeat<'a, R: Wait, M: Medium> {
     rt: &'a R,
     desk: &'a Desk<M>,
