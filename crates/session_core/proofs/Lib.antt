@@ -1,3 +1,4 @@
+pub mod Archiving
 pub mod Calling
 pub mod Courses
 pub mod Ended

@@ -1,3 +1,4 @@
+pub mod Archived
 pub mod Doings
 pub mod Endings
 pub mod Givings

@@ -1,0 +1,9 @@
+//! The laws of sessions, each as the contract of a function that does nothing.
+ghost use Rattle.session_core.specs.Archived.{CountedIsArchived};
+
+/// Of an archive that was up as a session began, and is a shelf over a medium that tells its content, a power loss after the
+/// session, or at any moment inside it, leaves what was there before, all records of each frame that was counted, and nothing
+/// further but records of the session's device that stand in these frames or in the one after them.
+pub fn counted_is_archived()
+    ensures { CountedIsArchived }
+{}
