@@ -12,6 +12,7 @@ use Rattle.frame_layout.specs.UpRows.{up_rows}
 use Rattle.frame_layout.specs.Values.{UpValue, login, packet, response}
 use Rattle.frame_layout.proofs.PlaceLaws.{up_place}
 use Rattle.session_core.specs.Serving.{login_in, total_records}
+use Rattle.session_core.specs.SessionCalls.{bodies_of}
 use Rattle.session_core.specs.Talks.{Meaning, Talk, nobody, device, stranger, next, after, packets, text, stores, imei_in, is_stranger, records_in}
 use Rattle.session_core.proofs.Reading.{up_stream}
 
@@ -64,9 +65,6 @@ bodies_then [] ys = refl
 bodies_then (x ∷ xs) ys = ap (λ (b : List (List ℕ)). packet_in x ++ b) (bodies_then xs ys) ∙ sym (append_assoc (packet_in x) (bodies_in xs) (bodies_in ys))
 
 -- the bodies of packets
-abbrev pub bodies_of : List (ℕ × List ℕ) → List (List ℕ)
-bodies_of [] = []
-bodies_of (p ∷ ps) = p.1 ∷ bodies_of ps
 
 pub bodies_of-then : (ps qs : List (ℕ × List ℕ)) → bodies_of (ps ++ qs) ≡ bodies_of ps ++ bodies_of qs
 bodies_of-then [] qs = refl

@@ -20,8 +20,9 @@ use Rattle.session_core.specs.Doings.{Doing, counted_in, Does, IsRefused, IsCut,
 use Rattle.session_core.specs.Endings.{start, DoesAll, Ends, IsAtEnd}
 use Rattle.session_core.specs.Readings.{HadRead, Heads, Reads, ReadsFault}
 use Rattle.session_core.specs.Serving.{said_in, rest_verdict, login_in, Halt, all_dealt, IsAllDealt, IsBeforePacket, IsInAnswer, IsRefusal, IsUnbegun, HaltsBy, IsCourse, IsTold, IsAllWritten, OrdersAre, MayBeUncounted}
+use Rattle.session_core.specs.SessionCalls.{bodies_of}
 use Rattle.session_core.specs.Talks.{Meaning, Talk, nobody, device, stranger, reply, next, text, after, packets, stores, records_in, imei_in, orders_in, is_stranger}
-use Rattle.session_core.proofs.Courses.{LoginFirst, login_first, first_of, login_same, bodies_in, bodies_of, bodies_then, bodies_of-then, bodies_size, bodies_total, packets_are, stranger_says, all_bodies, imei_is, none_before}
+use Rattle.session_core.proofs.Courses.{LoginFirst, login_first, first_of, login_same, bodies_in, bodies_then, bodies_of-then, bodies_size, bodies_total, packets_are, stranger_says, all_bodies, imei_is, none_before}
 use Rattle.session_core.proofs.Going.{after_then, text_then, packets_then, records_then, does_then}
 use Rattle.session_core.proofs.Reading.{nothing_read, values_then}
 

@@ -10,8 +10,9 @@ use Rattle.session_core.specs.declared.served.SessionEnd.{SessionEnd}
 use Rattle.session_core.specs.declared.served.SessionEnd.TheVariants as ends
 use Rattle.session_core.specs.Doings.{counted_in}
 use Rattle.session_core.specs.Serving.{said_in, Halt, all_dealt, IsAllDealt, IsBeforePacket, IsInAnswer, IsRefusal, IsUnbegun, HaltsBy, IsCourse, IsTold, IsAllWritten, OrdersAre, MayBeUncounted, total_records}
+use Rattle.session_core.specs.SessionCalls.{bodies_of}
 use Rattle.session_core.specs.Talks.{Meaning, Talk, nobody, device, stranger, reply, next, text, after, packets, stores, records_in, orders_in, is_stranger}
-use Rattle.session_core.proofs.Courses.{LoginFirst, login_first, first_of, bodies_in, bodies_of, bodies_then, bodies_of-then, bodies_size, bodies_total, packets_are, stranger_says, stranger_stays, all_bodies}
+use Rattle.session_core.proofs.Courses.{LoginFirst, login_first, first_of, bodies_in, bodies_then, bodies_of-then, bodies_size, bodies_total, packets_are, stranger_says, stranger_stays, all_bodies}
 use Rattle.session_core.proofs.Going.{after_then, text_then}
 
 -- of an item's packet, what was counted and what wasn't

@@ -10,7 +10,7 @@ mod session;
 mod work;
 
 pub use known::{ImeiList, Known};
-pub use laws::counted_is_archived;
+pub use laws::{counted_is_archived, well_formed_ends};
 pub use orders::{NoOrders, Orders};
 pub use serve::serve_link;
 pub use served::{Served, SessionEnd};
