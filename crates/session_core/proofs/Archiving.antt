@@ -1,5 +1,5 @@
 -- What an archive has after a session.
-use Rattle.std.proofs.Common.{◌≡◌, ◌⊎◌, inl, inr, ℕ, ◌+◌, Bool, true, false, List, [], ◌∷◌, ◌++◌, length, map, take, Option, Some, Result, Ok, Err, refl, sym, ap, subst, ◌∙◌, append_assoc, append-nil, arith}
+use Rattle.std.proofs.Common.{◌≡◌, ◌⊎◌, inl, inr, ℕ, ◌+◌, Bool, false, List, [], ◌∷◌, ◌++◌, length, map, take, Option, Some, Ok, Err, refl, sym, ap, subst, ◌∙◌, append_assoc, arith}
 use Rattle.std.specs.List.{flat_map}
 use Rattle.std.proofs.lemmas.List.{map-append}
 use Rattle.std.proofs.Math.Seq.{take-append-add, take-append_seam}
@@ -9,19 +9,17 @@ use Rattle.medium_model.proofs.Images.{every-map}
 use Rattle.record_layout.specs.RecordsOf.{records_of}
 use Rattle.archive_journal.specs.Body.{EntryValue}
 use Rattle.archive_journal.specs.Entries.{entries_of}
-use Rattle.archive_journal.specs.Journal.{EachHolds, HoldsWith}
+use Rattle.archive_journal.specs.Journal.{EachHolds}
 use Rattle.frame_layout.specs.Readings.{packets_of, up_reading}
 use Rattle.shelf.specs.Admits.{Answer, answer_of, down_after}
 use Rattle.shelf.specs.Archive.{Begins, StoredValue, admitted, fresh, list_of, stored}
 use Rattle.shelf.specs.Calls.{Brought, Call, Feeds, IsLegal, Mark, brought, replay}
 use Rattle.shelf.specs.Histories.{Each, HasPlaces, In}
-use Rattle.shelf.specs.Shelf.{IsDurable, Leaves, Lists, ListsEither, ShelfView, front}
-use Rattle.shelf.specs.declared.receipt.AdmitFault.{AdmitFault}
-use Rattle.shelf.specs.declared.receipt.Receipt.{Receipt}
+use Rattle.shelf.specs.Shelf.{IsDurable, Leaves, ListsEither, ShelfView}
 use Rattle.shelf.proofs.Histories.{fed}
 use Rattle.shelf.proofs.Laws.{lists-after}
 use Rattle.shelf.proofs.Leaving.{admitted-fresh}
-use Rattle.shelf.proofs.Members.{IsBrought, in-admitted, in-append, in-left, in-legal, in-replay, in-right, replay-begins}
+use Rattle.shelf.proofs.Members.{in-admitted, in-append, in-left, in-legal, in-replay, in-right, replay-begins}
 use Rattle.shelf.proofs.Stages.{begins-then}
 use Rattle.session_core.specs.declared.served.Served.{Served}
 use Rattle.session_core.specs.declared.served.SessionEnd.{SessionEnd}
@@ -192,10 +190,10 @@ module _ (served : Served) (mark : Mark) (taken : List ℕ) (all : List Brought)
       | inr new ↦ inr (own new.call new.made ∙ ap (λ (n : ℕ). Some n) (sym new.device), in-first new.call v.rec new.made new.has)
     ];
     counted = λ imei r who is.
-      let found = joined-in a.counted r (subst (λ (x : List (List Record)). In (flat_map (λ y. y) x) r) first-rows is) in
-      let device = same-imei found.0.imei imei served.imei (own found.0 found.1) who in
-      subst (λ (n : ℕ). In (replay before a.counted) (stored n r)) device
-      (in-legal before down a.counted found.0 r legal found.1 (each-in (λ b. HasPlaces b.answer) a.counted found.0 a.stored found.1) found.2);
+        let found = joined-in a.counted r (subst (λ (x : List (List Record)). In (flat_map (λ y. y) x) r) first-rows is) in
+        let device = same-imei found.0.imei imei served.imei (own found.0 found.1) who in
+        subst (λ (n : ℕ). In (replay before a.counted) (stored n r)) device
+        (in-legal before down a.counted found.0 r legal found.1 (each-in (λ b. HasPlaces b.answer) a.counted found.0 a.stored found.1) found.2);
   }
 
   -- and after one more packet

@@ -1,32 +1,31 @@
 -- The calls of a session.
-use Rattle.std.proofs.Common.{◌≡◌, ◌⊎◌, inl, inr, ℕ, ◌+◌, Bool, true, false, List, [], ◌∷◌, ◌++◌, length, map, Option, Some, None, Result, Ok, Err, if◌then◌else◌, refl, sym, ap, subst, ◌∙◌, append_assoc, append-nil, arith, length-append}
+use Rattle.std.proofs.Common.{◌≡◌, ◌⊎◌, inl, inr, ℕ, ◌+◌, Bool, true, false, List, [], ◌∷◌, ◌++◌, length, map, Option, Some, Result, Ok, Err, if◌then◌else◌, refl, sym, ap, subst, ◌∙◌, append_assoc, append-nil, arith, length-append}
 use Rattle.std.specs.Prelude.{nat_le}
 use Rattle.std.proofs.lemmas.List.{map-append}
 use Rattle.avl_values.specs.Record.{Record}
 use Rattle.item_streams.specs.Readers.{Reader, fresh}
 use Rattle.links.specs.Links.{LinkState, Traffic}
 use Rattle.record_layout.specs.RecordsOf.{records_of}
-use Rattle.frame_layout.specs.Readings.{packets_of, up_reading}
+use Rattle.frame_layout.specs.Readings.{up_reading}
 use Rattle.frame_layout.specs.Values.{UpValue, login, packet, response}
-use Rattle.shelf.specs.Admits.{Answer, answer_of}
+use Rattle.shelf.specs.Admits.{answer_of}
 use Rattle.shelf.specs.Calls.{AreStored, Brought, Call, Feeds, IsReceiptOf, Mark, brought}
 use Rattle.shelf.specs.Histories.{Each, HasPlaces}
 use Rattle.shelf.specs.declared.receipt.AdmitFault.{AdmitFault}
-use Rattle.shelf.specs.declared.receipt.AdmitFault.TheVariants as admit
 use Rattle.shelf.specs.declared.receipt.Receipt.{Receipt}
 use Rattle.shelf.proofs.Histories.{feeds_then, stored_then}
 use Rattle.session_core.specs.declared.served.Served.{Served}
 use Rattle.session_core.specs.declared.served.SessionEnd.{SessionEnd}
 use Rattle.session_core.specs.declared.served.SessionEnd.TheVariants as ends
-use Rattle.session_core.specs.Doings.{Doing, counted_in, Does, IsRefused, Stops}
+use Rattle.session_core.specs.Doings.{Doing, Does, IsRefused, Stops}
 use Rattle.session_core.specs.Endings.{start, Ends}
 use Rattle.session_core.specs.Serving.{said_in}
-use Rattle.session_core.specs.SessionCalls.{AreCallsOf, HaveReceipts, bodies_of, IsOne, IsOneOrNone, IsRefusedBy, MayFollow, records_brought}
-use Rattle.session_core.specs.Talks.{Meaning, Talk, nobody, device, stranger, reply, next, after, packets, stores, records_in, imei_in, is_stranger}
+use Rattle.session_core.specs.SessionCalls.{AreCallsOf, HaveReceipts, bodies_of, IsOneOrNone, MayFollow, records_brought}
+use Rattle.session_core.specs.Talks.{Meaning, Talk, nobody, device, stranger, next, after, packets, stores, records_in, imei_in, is_stranger}
 use Rattle.session_core.proofs.Courses.{LoginFirst, login_first, first_of, bodies_in, bodies_then, bodies_of-then, packets_are, all_bodies, device_imei, none_before}
-use Rattle.session_core.proofs.Going.{after_then, packets_then, records_then, does_then}
+use Rattle.session_core.proofs.Going.{records_then}
 use Rattle.session_core.proofs.Telling.{read_all, read_heads, read_fault, sent_away, served_at}
-use Rattle.session_core.proofs.Wording.{cut_bodies, is_answered}
+use Rattle.session_core.proofs.Wording.{is_answered}
 
 -- calls for these packets, in order, with any answers
 abbrev pub AreFor : List (ℕ × List ℕ) → List Call → Type 0
@@ -107,7 +106,12 @@ module _ (mark : Mark) where
   pub have_receipts : (served : Served) (taken : List ℕ) (ps qs extra : List (ℕ × List ℕ)) (counted others : List Call) → AreStored qs counted → served.frames ≡ length qs → ps ≡ qs ++ extra → (rest : List (List ℕ)) → bodies_in (said_in taken) ≡ bodies_of ps ++ rest
       → HaveReceipts served taken (counted ++ others)
   have_receipts served taken ps qs extra counted others stored frames split rest bodies = record {
-    packets = qs; first = counted; last = others; are = refl; stored = stored; frames = frames;
+    packets = qs;
+    first = counted;
+    last = others;
+    are = refl;
+    stored = stored;
+    frames = frames;
     others = bodies_of extra ++ rest;
     bodies = packets_are (up_reading false taken).items ∙ (bodies ∙ (ap (λ (x : List (List ℕ)). x ++ rest) (ap bodies_of split ∙ bodies_of-then qs extra) ∙ append_assoc (bodies_of qs) (bodies_of extra) rest));
   }
@@ -176,8 +180,8 @@ module _ {S O : Type 0} (leaves : S → ℕ → List ℕ → Result Receipt Admi
       let ds : List (ℕ × List ℕ) = packets m known (nobody o) t.dealt in
       let left = rest read.0 in
       let bodies : bodies_in (said_in taken) ≡ bodies_of (ds ++ ps) ++ left.0 =
-            (ap bodies_in is ∙ (bodies_then t.dealt (t.at ∷ read.0) ∙ (ap (λ (x : List (List ℕ) × List (List ℕ)). x.0 ++ x.1) (λ i. (all_bodies m known o t.dealt first (ap is_stranger (sym t.does.talk) ∙ welcome) i, left.1 i))
-            ∙ (sym (append_assoc (bodies_of ds) (bodies_of ps) left.0) ∙ ap (λ (x : List (List ℕ)). x ++ left.0) (sym (bodies_of-then ds ps)))))) in
+      (ap bodies_in is ∙ (bodies_then t.dealt (t.at ∷ read.0) ∙ (ap (λ (x : List (List ℕ) × List (List ℕ)). x.0 ++ x.1) (λ i. (all_bodies m known o t.dealt first (ap is_stranger (sym t.does.talk) ∙ welcome) i, left.1 i))
+      ∙ (sym (append_assoc (bodies_of ds) (bodies_of ps) left.0) ∙ ap (λ (x : List (List ℕ)). x ++ left.0) (sym (bodies_of-then ds ps)))))) in
       let joined : (t.does.calls ++ counted) ++ others ≡ t.does.calls ++ (counted ++ others) = append_assoc t.does.calls counted others in
       let own : Each (λ p. imei_in y.talk ≡ Some p.0) ds = elim same [
         | inl e ↦ subst (λ (i : Option ℕ). Each (λ p. i ≡ Some p.0) ds) (ap imei_in (sym t.does.talk) ∙ e) (packets_imei (nobody o) t.dealt)

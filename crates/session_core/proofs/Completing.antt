@@ -1,6 +1,6 @@
 -- A well-formed stream is served to its end.
-use Rattle.std.proofs.Common.{◌≡◌, ◌⊎◌, inl, inr, ℕ, ◌+◌, ◌<◌, ◌≤◌, ◌^◌, Bool, true, false, List, [], ◌∷◌, ◌++◌, length, map, Option, Some, None, Ok, Err, IsSome, IfSome, refl, sym, ap, subst, ◌∙◌, append-nil, arith, length-append}
-use Rattle.avl_values.specs.Causes.{IsAbove, Rose}
+use Rattle.std.proofs.Common.{◌≡◌, ◌⊎◌, inl, inr, ℕ, true, false, List, [], ◌∷◌, ◌++◌, length, map, Option, Some, None, Err, IsSome, IfSome, refl, sym, ap, subst, ◌∙◌, append-nil, arith, length-append}
+use Rattle.avl_values.specs.Causes.{Rose}
 use Rattle.avl_values.specs.declared.fault.Fault.{Fault}
 use Rattle.avl_values.specs.declared.fault.FaultKind.{FaultKind}
 use Rattle.layout.specs.Rows.{Verdict, short, fault, judge}
@@ -11,21 +11,18 @@ use Rattle.frame_layout.specs.Readings.{packets_of, up_reading}
 use Rattle.frame_layout.specs.UpRows.{up_rows}
 use Rattle.frame_layout.specs.Values.{UpValue, login}
 use Rattle.shelf.specs.Admits.{Answer}
-use Rattle.shelf.specs.Calls.{Brought, Mark, brought}
+use Rattle.shelf.specs.Calls.{Brought, brought}
 use Rattle.shelf.specs.Histories.{AreCounted, In, IsCounted}
-use Rattle.shelf.specs.Shelf.{Leaves, ShelfView}
 use Rattle.shelf.specs.declared.receipt.AdmitFault.{AdmitFault}
 use Rattle.shelf.specs.declared.receipt.AdmitFault.TheVariants as refused
 use Rattle.shelf.proofs.Histories.{fed}
 use Rattle.shelf.proofs.Members.{in-right}
-use Rattle.session_core.specs.declared.served.Served.{Served}
 use Rattle.session_core.specs.declared.served.SessionEnd.{SessionEnd}
 use Rattle.session_core.specs.declared.served.SessionEnd.TheVariants as ends
-use Rattle.session_core.specs.Complete.{IsCarried, IsWellFormed, WellFormedEnds}
+use Rattle.session_core.specs.Complete.{WellFormedEnds}
 use Rattle.session_core.specs.Endings.{IsAtEnd}
-use Rattle.session_core.specs.Serving.{HaltsBy, IsServed, MayBeUncounted, rest_verdict, said_in}
-use Rattle.session_core.specs.SessionCalls.{AreCallsOf, IsOne, IsRefusedBy, MayFollow}
-use Rattle.session_core.specs.Talks.{Meaning}
+use Rattle.session_core.specs.Serving.{HaltsBy, MayBeUncounted, rest_verdict, said_in}
+use Rattle.session_core.specs.SessionCalls.{IsOne, IsRefusedBy, MayFollow}
 use Rattle.session_core.proofs.Reading.{up_stream, values_then}
 
 -- what begins a stream
@@ -109,7 +106,7 @@ complete {O = O} m known o p told mark s t old new served stream is cause tells 
     by_end (ends.Unknown imei) e h =
         let front = front_says is.taken carried.more in
         let says : login formed.imei ∷ formed.others ≡ (login imei ∷ is.course.halt.left) ++ front.0 =
-              sym formed.says ∙ (ap said_in carried.is ∙ (front.1 ∙ ap (λ (x : List UpValue). x ++ front.0) (is.course.items ∙ ap (λ (x : List UpValue). x ++ is.course.halt.left) h.login_is))) in
+        sym formed.says ∙ (ap said_in carried.is ∙ (front.1 ∙ ap (λ (x : List UpValue). x ++ front.0) (is.course.items ∙ ap (λ (x : List UpValue). x ++ is.course.halt.left) h.login_is))) in
         let same : formed.imei ≡ imei = same_login formed.imei imei formed.others (is.course.halt.left ++ front.0) says in
         let no : true ≡ false = sym formed.is_known ∙ (ap known same ∙ h.unknown) in absurd cc
     by_end ends.LinkFault e h = absurd (no_link (cause e))

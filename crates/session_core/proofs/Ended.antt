@@ -14,7 +14,7 @@ use Rattle.session_core.specs.Endings.{start, Ends}
 use Rattle.session_core.specs.Serving.{IsCourse, IsServed, all_dealt, login_in, said_in}
 use Rattle.session_core.specs.SessionCalls.{AreCallsOf, HaveReceipts}
 use Rattle.session_core.specs.Sessions.{SessionState, new_session, talk_of}
-use Rattle.session_core.specs.Talks.{Meaning, Talk, imei_in, orders_in}
+use Rattle.session_core.specs.Talks.{Meaning, Talk, imei_in}
 use Rattle.session_core.proofs.Calling.{session_calls, are_calls, have_receipts}
 use Rattle.session_core.proofs.Courses.{bodies_in}
 use Rattle.session_core.proofs.Reading.{reads_none}

@@ -1,5 +1,5 @@
 -- The calls of `admit` that a session makes.
-use Rattle.std.specs.Prelude.{◌≡◌, ℕ, ◌+◌, false, List, [], ◌∷◌, ◌++◌, length, map, Option, Some, Err}
+use Rattle.std.specs.Prelude.{◌≡◌, ℕ, ◌+◌, false, List, [], ◌∷◌, ◌++◌, length, map, Some, Err}
 use Rattle.avl_values.specs.Record.{Record}
 use Rattle.record_layout.specs.RecordsOf.{records_of}
 use Rattle.frame_layout.specs.Readings.{packets_of, up_reading}
