@@ -1,32 +1,31 @@
 -- The calls of a session.
-use Rattle.std.proofs.Common.{◌≡◌, ◌⊎◌, inl, inr, ℕ, ◌+◌, Bool, true, false, List, [], ◌∷◌, ◌++◌, length, map, Option, Some, None, Result, Ok, Err, if◌then◌else◌, refl, sym, ap, subst, ◌∙◌, append_assoc, append-nil, arith, length-append}
+use Rattle.std.proofs.Common.{◌≡◌, ◌⊎◌, inl, inr, ℕ, ◌+◌, Bool, true, false, List, [], ◌∷◌, ◌++◌, length, map, Option, Some, Result, Ok, Err, if◌then◌else◌, refl, sym, ap, subst, ◌∙◌, append_assoc, append-nil, arith, length-append}
 use Rattle.std.specs.Prelude.{nat_le}
 use Rattle.std.proofs.lemmas.List.{map-append}
 use Rattle.avl_values.specs.Record.{Record}
 use Rattle.item_streams.specs.Readers.{Reader, fresh}
 use Rattle.links.specs.Links.{LinkState, Traffic}
 use Rattle.record_layout.specs.RecordsOf.{records_of}
-use Rattle.frame_layout.specs.Readings.{packets_of, up_reading}
+use Rattle.frame_layout.specs.Readings.{up_reading}
 use Rattle.frame_layout.specs.Values.{UpValue, login, packet, response}
-use Rattle.shelf.specs.Admits.{Answer, answer_of}
+use Rattle.shelf.specs.Admits.{answer_of}
 use Rattle.shelf.specs.Calls.{AreStored, Brought, Call, Feeds, IsReceiptOf, Mark, brought}
 use Rattle.shelf.specs.Histories.{Each, HasPlaces}
 use Rattle.shelf.specs.declared.receipt.AdmitFault.{AdmitFault}
-use Rattle.shelf.specs.declared.receipt.AdmitFault.TheVariants as admit
 use Rattle.shelf.specs.declared.receipt.Receipt.{Receipt}
 use Rattle.shelf.proofs.Histories.{feeds_then, stored_then}
 use Rattle.session_core.specs.declared.served.Served.{Served}
 use Rattle.session_core.specs.declared.served.SessionEnd.{SessionEnd}
 use Rattle.session_core.specs.declared.served.SessionEnd.TheVariants as ends
-use Rattle.session_core.specs.Doings.{Doing, counted_in, Does, IsRefused, Stops}
+use Rattle.session_core.specs.Doings.{Doing, Does, IsRefused, Stops}
 use Rattle.session_core.specs.Endings.{start, Ends}
 use Rattle.session_core.specs.Serving.{said_in}
-use Rattle.session_core.specs.SessionCalls.{AreCallsOf, IsOne, IsOneOrNone, IsRefusedBy, MayFollow, records_brought}
-use Rattle.session_core.specs.Talks.{Meaning, Talk, nobody, device, stranger, reply, next, after, packets, stores, records_in, imei_in, is_stranger}
-use Rattle.session_core.proofs.Courses.{LoginFirst, login_first, first_of, bodies_in, bodies_of, bodies_then, bodies_of-then, packets_are, all_bodies, device_imei, none_before}
-use Rattle.session_core.proofs.Going.{after_then, packets_then, records_then, does_then}
+use Rattle.session_core.specs.SessionCalls.{AreCallsOf, HaveReceipts, bodies_of, IsOneOrNone, MayFollow, records_brought}
+use Rattle.session_core.specs.Talks.{Meaning, Talk, nobody, device, stranger, next, after, packets, stores, records_in, imei_in, is_stranger}
+use Rattle.session_core.proofs.Courses.{LoginFirst, login_first, first_of, bodies_in, bodies_then, bodies_of-then, packets_are, all_bodies, device_imei, none_before}
+use Rattle.session_core.proofs.Going.{records_then}
 use Rattle.session_core.proofs.Telling.{read_all, read_heads, read_fault, sent_away, served_at}
-use Rattle.session_core.proofs.Wording.{cut_bodies, is_answered}
+use Rattle.session_core.proofs.Wording.{is_answered}
 
 -- calls for these packets, in order, with any answers
 abbrev pub AreFor : List (ℕ × List ℕ) → List Call → Type 0
@@ -103,6 +102,20 @@ module _ (mark : Mark) where
     bodies = ap (map records_of) (packets_are (up_reading false taken).items ∙ bodies) ∙ (map-append records_of (bodies_of ps) rest ∙ ap (λ (x : List (List Record)). x ++ map records_of rest) (for_records ps (counted ++ others) for));
   }
 
+  -- their receipts
+  pub have_receipts : (served : Served) (taken : List ℕ) (ps qs extra : List (ℕ × List ℕ)) (counted others : List Call) → AreStored qs counted → served.frames ≡ length qs → ps ≡ qs ++ extra → (rest : List (List ℕ)) → bodies_in (said_in taken) ≡ bodies_of ps ++ rest
+      → HaveReceipts served taken (counted ++ others)
+  have_receipts served taken ps qs extra counted others stored frames split rest bodies = record {
+    packets = qs;
+    first = counted;
+    last = others;
+    are = refl;
+    stored = stored;
+    frames = frames;
+    others = bodies_of extra ++ rest;
+    bodies = packets_are (up_reading false taken).items ∙ (bodies ∙ (ap (λ (x : List (List ℕ)). x ++ rest) (ap bodies_of split ∙ bodies_of-then qs extra) ∙ append_assoc (bodies_of qs) (bodies_of extra) rest));
+  }
+
   -- one call, or none, with places
   one_or_none : (ps : List (ℕ × List ℕ)) (cs : List Call) → (ps ≡ []) ⊎ ((p : ℕ × List ℕ) × (ps ≡ p ∷ [])) → AreStored ps cs → IsOneOrNone HasPlaces (map (brought mark) cs)
   one_or_none ps [] one a = tt
@@ -136,6 +149,7 @@ module _ {S O : Type 0} (leaves : S → ℕ → List ℕ → Result Receipt Admi
   pub record HasCalls (end : SessionEnd) (mark : Mark) (taken : List ℕ) (s : S) (y : Doing S O) : Type 0 where
     pub calls : List Call
     pub feeds : Feeds leaves s calls y.shelf
+    pub receipts : HaveReceipts (served_at leaves m known end y) taken calls
     pub are : AreCallsOf (served_at leaves m known end y) mark taken (map (brought mark) calls)
 
   -- all was dealt with
@@ -144,26 +158,30 @@ module _ {S O : Type 0} (leaves : S → ℕ → List ℕ → Result Receipt Admi
   all_calls end mark taken said o s w y is does welcome follows =
       let ps : List (ℕ × List ℕ) = packets m known (nobody o) said in
       let none : does.calls ++ [] ≡ does.calls = append-nil does.calls in
+      let bodies = ap bodies_in is ∙ (all_bodies m known o said (subst LoginFirst is (login_first taken)) (ap is_stranger (sym does.talk) ∙ welcome) ∙ sym (append-nil (bodies_of ps))) in
       record {
         calls = does.calls;
         feeds = does.feeds;
+        receipts = subst (HaveReceipts (served_at leaves m known end y) taken) none (have_receipts mark (served_at leaves m known end y) taken ps ps [] does.calls [] does.stored (does.frames ∙ omega arith) (sym (append-nil ps)) [] bodies);
         are = subst (λ (cs : List Call). AreCallsOf (served_at leaves m known end y) mark taken (map (brought mark) cs)) none
             (are_calls mark (served_at leaves m known end y) taken ps ps does.calls [] (subst (AreFor ps) (sym none) (stored_for ps does.calls does.stored)) does.stored (does.frames ∙ omega arith) (does.records ∙ omega arith)
-            (subst (λ (t : Talk O). Each (λ p. imei_in t ≡ Some p.0) ps) (sym does.talk) (packets_imei (nobody o) said)) follows []
-            (ap bodies_in is ∙ (all_bodies m known o said (subst LoginFirst is (login_first taken)) (ap is_stranger (sym does.talk) ∙ welcome) ∙ sym (append-nil (bodies_of ps)))));
+            (subst (λ (t : Talk O). Each (λ p. imei_in t ≡ Some p.0) ps) (sym does.talk) (packets_imei (nobody o) said)) follows [] bodies);
       }
 
   -- it stopped at an item
-  stop_calls : (end : SessionEnd) (mark : Mark) (taken : List ℕ) (o : O) (s : S) (w : Option Traffic) (y : Doing S O) (t : Stops leaves m known end taken taken (fresh false) (start o s w) y) (ps : List (ℕ × List ℕ)) (counted others : List Call) (qs : List (ℕ × List ℕ))
+  stop_calls : (end : SessionEnd) (mark : Mark) (taken : List ℕ) (o : O) (s : S) (w : Option Traffic) (y : Doing S O) (t : Stops leaves m known end taken taken (fresh false) (start o s w) y) (ps : List (ℕ × List ℕ)) (counted others : List Call) (qs extra : List (ℕ × List ℕ)) → ps ≡ qs ++ extra
       → AreFor ps (counted ++ others) → AreStored qs counted → Feeds leaves t.between.shelf (counted ++ others) y.shelf → y.frames ≡ t.between.frames + length qs → y.records ≡ t.between.records + records_in qs
       → Each (λ p. imei_in y.talk ≡ Some p.0) ps → imei_in t.between.talk ≡ imei_in y.talk ⊎ (t.dealt ≡ []) → MayFollow end (map (brought mark) others) → is_stranger t.between.talk ≡ false
       → (rest : (others : List UpValue) → (after_ : List (List ℕ)) × (bodies_in (t.at ∷ others) ≡ bodies_of ps ++ after_)) → HasCalls end mark taken s y
-  stop_calls end mark taken o s w y t ps counted others qs for stored feeds frames records owner same follows welcome rest =
+  stop_calls end mark taken o s w y t ps counted others qs extra split for stored feeds frames records owner same follows welcome rest =
       let read = read_heads taken (t.dealt ++ t.at ∷ []) t.heads in
       let is : said_in taken ≡ t.dealt ++ t.at ∷ read.0 = read.1 ∙ append_assoc t.dealt (t.at ∷ []) read.0 in
       let first : LoginFirst t.dealt = first_of t.dealt (t.at ∷ read.0) (subst LoginFirst is (login_first taken)) in
       let ds : List (ℕ × List ℕ) = packets m known (nobody o) t.dealt in
       let left = rest read.0 in
+      let bodies : bodies_in (said_in taken) ≡ bodies_of (ds ++ ps) ++ left.0 =
+      (ap bodies_in is ∙ (bodies_then t.dealt (t.at ∷ read.0) ∙ (ap (λ (x : List (List ℕ) × List (List ℕ)). x.0 ++ x.1) (λ i. (all_bodies m known o t.dealt first (ap is_stranger (sym t.does.talk) ∙ welcome) i, left.1 i))
+      ∙ (sym (append_assoc (bodies_of ds) (bodies_of ps) left.0) ∙ ap (λ (x : List (List ℕ)). x ++ left.0) (sym (bodies_of-then ds ps)))))) in
       let joined : (t.does.calls ++ counted) ++ others ≡ t.does.calls ++ (counted ++ others) = append_assoc t.does.calls counted others in
       let own : Each (λ p. imei_in y.talk ≡ Some p.0) ds = elim same [
         | inl e ↦ subst (λ (i : Option ℕ). Each (λ p. i ≡ Some p.0) ds) (ap imei_in (sym t.does.talk) ∙ e) (packets_imei (nobody o) t.dealt)
@@ -171,13 +189,13 @@ module _ {S O : Type 0} (leaves : S → ℕ → List ℕ → Result Receipt Admi
       ] in
       record {
         calls = (t.does.calls ++ counted) ++ others;
+        receipts = have_receipts mark (served_at leaves m known end y) taken (ds ++ ps) (ds ++ qs) extra (t.does.calls ++ counted) others (stored_then ds qs t.does.calls counted t.does.stored stored)
+            (omega (arith, frames, t.does.frames, length-append ds qs)) (ap (λ (x : List (ℕ × List ℕ)). ds ++ x) split ∙ sym (append_assoc ds qs extra)) left.0 bodies;
         feeds = subst (λ (cs : List Call). Feeds leaves s cs y.shelf) (sym joined) (feeds_then leaves t.does.calls (counted ++ others) s t.between.shelf y.shelf t.does.feeds feeds);
         are = are_calls mark (served_at leaves m known end y) taken (ds ++ ps) (ds ++ qs) (t.does.calls ++ counted) others
             (subst (AreFor (ds ++ ps)) (sym joined) (for_then ds ps t.does.calls (counted ++ others) (stored_for ds t.does.calls t.does.stored) for)) (stored_then ds qs t.does.calls counted t.does.stored stored)
             (omega (arith, frames, t.does.frames, length-append ds qs)) (omega (arith, records, t.does.records, records_then ds qs))
-            (each_then (λ p. imei_in y.talk ≡ Some p.0) ds ps own owner) follows left.0
-            (ap bodies_in is ∙ (bodies_then t.dealt (t.at ∷ read.0) ∙ (ap (λ (x : List (List ℕ) × List (List ℕ)). x.0 ++ x.1) (λ i. (all_bodies m known o t.dealt first (ap is_stranger (sym t.does.talk) ∙ welcome) i, left.1 i))
-            ∙ (sym (append_assoc (bodies_of ds) (bodies_of ps) left.0) ∙ ap (λ (x : List (List ℕ)). x ++ left.0) (sym (bodies_of-then ds ps))))));
+            (each_then (λ p. imei_in y.talk ≡ Some p.0) ds ps own owner) follows left.0 bodies;
       }
 
   refused_calls : (end : SessionEnd) (why : AdmitFault) (mark : Mark) (taken : List ℕ) (o : O) (s : S) (w : Option Traffic) (y : Doing S O) (t : Stops leaves m known end taken taken (fresh false) (start o s w) y) → IsRefused leaves m known why t.at t.between y
@@ -185,7 +203,7 @@ module _ {S O : Type 0} (leaves : S → ℕ → List ℕ → Result Receipt Admi
   refused_calls end why mark taken o s w y t r follows =
       let c : Call = record { imei = r.imei; body = r.body; result = Err why } in
       let who : imei_in y.talk ≡ Some r.imei = ap imei_in r.same_talk ∙ ap imei_in r.talk in
-      stop_calls end mark taken o s w y t ((r.imei, r.body) ∷ []) [] (c ∷ []) [] (refl, refl, tt) tt (y.shelf, r.call, refl) (omega (arith, r.frames)) (omega (arith, r.records)) (who, tt) (inl (ap imei_in (sym r.same_talk)))
+      stop_calls end mark taken o s w y t ((r.imei, r.body) ∷ []) [] (c ∷ []) [] ((r.imei, r.body) ∷ []) refl (refl, refl, tt) tt (y.shelf, r.call, refl) (omega (arith, r.frames)) (omega (arith, r.records)) (who, tt) (inl (ap imei_in (sym r.same_talk)))
       (follows (brought mark c) refl) (ap is_stranger r.talk) (λ others. (bodies_in others, ap (λ (v : UpValue). bodies_in (v ∷ others)) r.is))
 
   -- the link failed inside an answer
@@ -233,11 +251,11 @@ module _ {S O : Type 0} (leaves : S → ℕ → List ℕ → Result Receipt Admi
       by true frames records owner same rest welcome =
           let ss : List (ℕ × List ℕ) = stores m known t.between.talk t.at in
           let none : t.stops.calls ++ [] ≡ t.stops.calls = append-nil t.stops.calls in
-          stop_calls ends.LinkFault mark taken o s w y t ss t.stops.calls [] ss (subst (AreFor ss) (sym none) (stored_for ss t.stops.calls t.stops.stored)) t.stops.stored
+          stop_calls ends.LinkFault mark taken o s w y t ss t.stops.calls [] ss [] (sym (append-nil ss)) (subst (AreFor ss) (sym none) (stored_for ss t.stops.calls t.stops.stored)) t.stops.stored
           (subst (λ (cs : List Call). Feeds leaves t.between.shelf cs y.shelf) (sym none) t.stops.feeds) frames records owner same tt welcome rest
       by false frames records owner same rest welcome =
           let ss : List (ℕ × List ℕ) = stores m known t.between.talk t.at in
-          stop_calls ends.LinkFault mark taken o s w y t ss [] t.stops.calls [] (stored_for ss t.stops.calls t.stops.stored) tt t.stops.feeds frames records owner same
+          stop_calls ends.LinkFault mark taken o s w y t ss [] t.stops.calls [] ss refl (stored_for ss t.stops.calls t.stops.stored) tt t.stops.feeds frames records owner same
           (one_or_none mark ss t.stops.calls (stores_one t.between.talk t.at) t.stops.stored) welcome rest
 
   -- a stranger makes none
@@ -248,6 +266,8 @@ module _ {S O : Type 0} (leaves : S → ℕ → List ℕ → Result Receipt Admi
       record {
         calls = u.does.calls;
         feeds = u.does.feeds;
+        receipts = subst (HaveReceipts (served_at leaves m known (ends.Unknown imei) y) taken) none
+            (have_receipts mark (served_at leaves m known (ends.Unknown imei) y) taken [] [] [] u.does.calls [] u.does.stored (u.does.frames ∙ omega arith) refl (bodies_in (said_in taken)) refl);
         are = subst (λ (cs : List Call). AreCallsOf (served_at leaves m known (ends.Unknown imei) y) mark taken (map (brought mark) cs)) none
             (are_calls mark (served_at leaves m known (ends.Unknown imei) y) taken [] [] u.does.calls [] (subst (AreFor []) (sym none) (stored_for [] u.does.calls u.does.stored)) u.does.stored (u.does.frames ∙ omega arith) (u.does.records ∙ omega arith)
             tt refl (bodies_in (said_in taken)) refl);

@@ -1,18 +1,15 @@
 -- The items of a stream and the talk over them: what came first, who is served, and which packets there are.
-use Rattle.std.proofs.Common.{◌≡◌, ℕ, ◌+◌, ◌<◌, Bool, true, false, List, [], ◌∷◌, ◌++◌, length, take, map, Option, Some, None, if◌then◌else◌, refl, sym, ap, subst, ◌∙◌, append_assoc, append-nil, arith, length-append}
-use Rattle.std.specs.List.{flat_map}
-use Rattle.std.proofs.lemmas.List.{map-append}
-use Rattle.layout.specs.Rows.{Fills, whole, judge}
+use Rattle.std.proofs.Common.{◌≡◌, ℕ, Bool, true, false, List, [], ◌∷◌, ◌++◌, length, Some, None, if◌then◌else◌, refl, sym, ap, ◌∙◌, append_assoc, arith}
 use Rattle.layout.proofs.RowLaws.{is_whole}
 use Rattle.item_streams.specs.Streams.{AreItems, Item, values}
 use Rattle.item_streams.proofs.StreamLaws.{has_reading}
-use Rattle.record_layout.specs.RecordsOf.{count_of}
 use Rattle.frame_layout.specs.Readings.{comes_later_up, packet_in, packets_of, up_reading}
 use Rattle.frame_layout.specs.UpRows.{up_rows}
 use Rattle.frame_layout.specs.Values.{UpValue, login, packet, response}
 use Rattle.frame_layout.proofs.PlaceLaws.{up_place}
 use Rattle.session_core.specs.Serving.{login_in, total_records}
-use Rattle.session_core.specs.Talks.{Meaning, Talk, nobody, device, stranger, next, after, packets, text, stores, imei_in, is_stranger, records_in}
+use Rattle.session_core.specs.SessionCalls.{bodies_of}
+use Rattle.session_core.specs.Talks.{Meaning, nobody, device, stranger, after, packets, text, imei_in, is_stranger, records_in}
 use Rattle.session_core.proofs.Reading.{up_stream}
 
 -- The first item is a login.
@@ -64,9 +61,6 @@ bodies_then [] ys = refl
 bodies_then (x ∷ xs) ys = ap (λ (b : List (List ℕ)). packet_in x ++ b) (bodies_then xs ys) ∙ sym (append_assoc (packet_in x) (bodies_in xs) (bodies_in ys))
 
 -- the bodies of packets
-abbrev pub bodies_of : List (ℕ × List ℕ) → List (List ℕ)
-bodies_of [] = []
-bodies_of (p ∷ ps) = p.1 ∷ bodies_of ps
 
 pub bodies_of-then : (ps qs : List (ℕ × List ℕ)) → bodies_of (ps ++ qs) ≡ bodies_of ps ++ bodies_of qs
 bodies_of-then [] qs = refl

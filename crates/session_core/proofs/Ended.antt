@@ -12,10 +12,10 @@ use Rattle.session_core.specs.declared.served.SessionEnd.TheVariants as ends
 use Rattle.session_core.specs.Doings.{Doing}
 use Rattle.session_core.specs.Endings.{start, Ends}
 use Rattle.session_core.specs.Serving.{IsCourse, IsServed, all_dealt, login_in, said_in}
-use Rattle.session_core.specs.SessionCalls.{AreCallsOf}
+use Rattle.session_core.specs.SessionCalls.{AreCallsOf, HaveReceipts}
 use Rattle.session_core.specs.Sessions.{SessionState, new_session, talk_of}
-use Rattle.session_core.specs.Talks.{Meaning, Talk, imei_in, orders_in}
-use Rattle.session_core.proofs.Calling.{session_calls, are_calls}
+use Rattle.session_core.specs.Talks.{Meaning, Talk, imei_in}
+use Rattle.session_core.proofs.Calling.{session_calls, are_calls, have_receipts}
 use Rattle.session_core.proofs.Courses.{bodies_in}
 use Rattle.session_core.proofs.Reading.{reads_none}
 use Rattle.session_core.proofs.Taking.{talk_imei, talk_orders}
@@ -44,6 +44,7 @@ module _ {S O : Type 0} (leaves : S → ℕ → List ℕ → Result Receipt Admi
         course = is;
         words = told m known o p new i f k end taken c.written is;
         calls = h.calls;
+        receipts = subst (λ (j : Option ℕ). HaveReceipts (served_so m known j f k end) taken h.calls) said h.receipts;
         feeds = h.feeds;
         same_mark = tell.same;
         tells = tell.added;
@@ -73,6 +74,7 @@ module _ {S O : Type 0} (leaves : S → ℕ → List ℕ → Result Receipt Admi
         course = is;
         words = told m known o o link None 0 0 ends.NoMemory [] [] is;
         calls = [];
+        receipts = have_receipts (mark s) (served_so m known None 0 0 ends.NoMemory) [] [] [] [] [] [] tt refl refl (bodies_in (said_in [])) refl;
         feeds = refl;
         same_mark = tell.same;
         tells = tell.added;

@@ -1,18 +1,17 @@
 -- The work for items, and then for more.
-use Rattle.std.proofs.Common.{◌≡◌, ℕ, ◌+◌, Bool, List, [], ◌∷◌, ◌++◌, length, Option, Result, refl, sym, ap, subst, ◌∙◌, append_assoc, append-nil, add-zero, arith, length-append}
+use Rattle.std.proofs.Common.{◌≡◌, ℕ, ◌+◌, Bool, List, [], ◌∷◌, ◌++◌, length, Result, refl, sym, ap, subst, ◌∙◌, append_assoc, add-zero, arith, length-append}
 use Rattle.avl_values.specs.declared.fault.Fault.{Fault}
 use Rattle.item_streams.specs.Readers.{Reader}
-use Rattle.links.specs.Links.{Moves, Traffic}
 use Rattle.links.proofs.Moving.{moves_as, moves_none, moves_then}
 use Rattle.frame_layout.specs.Values.{UpValue}
-use Rattle.shelf.specs.Calls.{AreStored, Call, Feeds}
+use Rattle.shelf.specs.Calls.{AreStored}
 use Rattle.shelf.specs.declared.receipt.AdmitFault.{AdmitFault}
 use Rattle.shelf.specs.declared.receipt.Receipt.{Receipt}
 use Rattle.shelf.proofs.Histories.{feeds_then, stored_then}
 use Rattle.session_core.specs.declared.served.SessionEnd.{SessionEnd}
 use Rattle.session_core.specs.declared.served.SessionEnd.TheVariants as ends
 use Rattle.session_core.specs.Doings.{Doing, Does, Goes, Stops, Breaks, EndsIn}
-use Rattle.session_core.specs.Readings.{Heads, Reads, ReadsFault}
+use Rattle.session_core.specs.Readings.{Heads}
 use Rattle.session_core.specs.Talks.{Meaning, Talk, reply, next, stores, text, after, packets, records_in}
 use Rattle.session_core.proofs.Reading.{reads_none, reads_then, heads_after, heads_wider, fault_after, fault_wider}
 

@@ -1,4 +1,6 @@
+pub mod Archiving
 pub mod Calling
+pub mod Completing
 pub mod Courses
 pub mod Ended
 pub mod Going

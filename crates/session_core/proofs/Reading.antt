@@ -1,12 +1,12 @@
 -- What was read in some bytes, and then in more.
-use Rattle.std.proofs.Common.{◌≡◌, ℕ, ◌+◌, Bool, true, false, List, [], ◌∷◌, ◌++◌, length, take, map, refl, sym, ap, subst, ◌∙◌, append_assoc, append-nil}
+use Rattle.std.proofs.Common.{◌≡◌, ℕ, Bool, true, false, List, [], ◌∷◌, ◌++◌, length, take, refl, sym, ap, subst, ◌∙◌, append_assoc, append-nil}
 use Rattle.std.proofs.lemmas.List.{map-append}
 use Rattle.avl_values.specs.declared.fault.Fault.{Fault}
 use Rattle.avl_values.specs.declared.fault.FaultKind.{FaultKind}
-use Rattle.layout.specs.Rows.{Rows, Verdict, fault, judge}
+use Rattle.layout.specs.Rows.{Rows, fault, judge}
 use Rattle.item_streams.specs.Laws.{AreStreamRows}
 use Rattle.item_streams.specs.Readers.{Decided, HasRead, Pushed, Reader, ReadsAs, added, broken, item, more}
-use Rattle.item_streams.specs.Streams.{Item, Reading, next_rows, reading_of, values}
+use Rattle.item_streams.specs.Streams.{Item, Reading, next_rows, values}
 use Rattle.item_streams.proofs.ReaderSteps.{pushes_read, read_none}
 use Rattle.item_streams.proofs.StreamLaws.{fault_ends, prefix}
 use Rattle.frame_layout.specs.Readings.{up_reading}
@@ -14,7 +14,7 @@ use Rattle.frame_layout.specs.UpRows.{up_rows}
 use Rattle.frame_layout.specs.Values.{UpValue}
 use Rattle.frame_layout.proofs.Lengths.{starts_short_up}
 use Rattle.frame_channel.specs.UpPushes.{lent_up}
-use Rattle.session_core.specs.Readings.{HadRead, ReadsMore, Reads, HeadsMore, Heads, BreaksMore, ReadsFault}
+use Rattle.session_core.specs.Readings.{HadRead, Reads, Heads, ReadsFault}
 
 pub values_then : (xs ys : List (Item UpValue)) → values (xs ++ ys) ≡ values xs ++ values ys
 values_then xs ys = map-append (λ (i : Item UpValue). i.value) xs ys

@@ -1,5 +1,5 @@
 -- A link, piece by piece.
-use Rattle.std.proofs.Common.{◌≡◌, ◌⊎◌, inl, inr, ℕ, ◌+◌, ◌-◌, ◌<◌, ◌≤◌, ◌^◌, Bool, true, false, List, [], ◌∷◌, ◌++◌, length, take, drop, Option, Some, None, Result, IfSome, refl, sym, ap, subst, ◌∙◌, append_assoc, append-nil, add-zero, arith, length-append}
+use Rattle.std.proofs.Common.{◌≡◌, inr, ℕ, ◌<◌, ◌≤◌, Bool, true, List, [], ◌∷◌, ◌++◌, length, take, Option, Some, None, Result, IfSome, refl, sym, ap, subst, ◌∙◌, append-nil, add-zero, arith}
 use Rattle.std.specs.Prelude.{◌↔◌}
 use Rattle.std.proofs.lemmas.List.{take-append-le, length-take-le}
 use Rattle.item_streams.specs.Readers.{Reader}
@@ -12,7 +12,7 @@ use Rattle.session_core.specs.declared.served.SessionEnd.TheVariants as ends
 use Rattle.session_core.specs.Doings.{Doing, Does, Goes, Stops, Breaks, EndsIn}
 use Rattle.session_core.specs.Endings.{DoesAll, Ends, IsAtEnd}
 use Rattle.session_core.specs.Talks.{Meaning, Talk}
-use Rattle.session_core.proofs.Going.{goes_none, goes_then, goes_as, stops_after, breaks_after}
+use Rattle.session_core.proofs.Going.{goes_then, goes_as, stops_after, breaks_after}
 use Rattle.session_core.proofs.Reading.{reads_none}
 
 -- where a link was at its end it is so still

@@ -1,32 +1,29 @@
 -- One step of a session, and what is done for it.
-use Rattle.std.proofs.Common.{◌≡◌, ℕ, ◌+◌, ◌<◌, Bool, true, false, not, List, [], ◌∷◌, ◌++◌, length, take, Option, Some, None, Result, IfNone, IfSome, if◌then◌else◌, refl, sym, ap, subst, ◌∙◌, append-nil, add-zero, arith}
+use Rattle.std.proofs.Common.{◌≡◌, ℕ, ◌+◌, Bool, true, false, not, List, [], ◌∷◌, ◌++◌, length, take, Option, Some, None, Result, IfNone, IfSome, if◌then◌else◌, refl, sym, ap, subst, ◌∙◌, append-nil, add-zero}
 use Rattle.std.specs.Prelude.{nat_le}
 use Rattle.avl_values.specs.declared.fault.Fault.{Fault}
-use Rattle.item_streams.specs.Readers.{Decided, Pushed, Reader, broken, item, more, reader_after}
+use Rattle.item_streams.specs.Readers.{Decided, Pushed, Reader, broken, item, more}
 use Rattle.links.specs.Links.{Moves, Traffic}
 use Rattle.links.proofs.Moving.{moves_as, moves_none}
-use Rattle.frame_layout.specs.Readings.{comes_later_up}
 use Rattle.frame_layout.specs.UpRows.{up_rows}
 use Rattle.frame_layout.specs.Values.{UpValue, login, packet, response}
 use Rattle.frame_layout.proofs.PlaceLaws.{up_place}
 use Rattle.frame_channel.specs.UpPushes.{lent_up}
 use Rattle.command_layout.specs.Answers.{value_in}
 use Rattle.command_layout.specs.declared.way.Way.TheVariants as way
-use Rattle.record_layout.specs.declared.head.PacketHead.{PacketHead}
 use Rattle.shelf.specs.declared.receipt.AdmitFault.{AdmitFault}
 use Rattle.shelf.specs.declared.receipt.Receipt.{Receipt}
 use Rattle.session_core.specs.declared.served.SessionEnd.{SessionEnd}
 use Rattle.session_core.specs.declared.served.SessionEnd.TheVariants as ends
-use Rattle.session_core.specs.declared.session.Step.{Step}
 use Rattle.session_core.specs.declared.session.Step.TheVariants.{More, Login, Packet, Response, Broken}
-use Rattle.session_core.specs.Doings.{Doing, counted_in, Does, Goes, Stops, StopsAt, Breaks, IsCut, IsStranger}
+use Rattle.session_core.specs.Doings.{Doing, counted_in, Does, Stops, StopsAt, IsStranger}
 use Rattle.session_core.specs.Readings.{Reads}
 use Rattle.session_core.specs.Sessions.{SessionState, IsReady, Heard, is_there, talk_with, talk_of}
 use Rattle.session_core.specs.Talks.{Meaning, Talk, nobody, device, stranger, reply, next, told_by, records_in, imei_in, orders_in, is_stranger}
 use Rattle.session_core.specs.Works.{Greets, Took}
 use Rattle.session_core.proofs.Going.{does_none, stopped}
 use Rattle.session_core.proofs.Hearing.{frame_stays}
-use Rattle.session_core.proofs.Reading.{said_in, reads_push, heads_read, fault_push}
+use Rattle.session_core.proofs.Reading.{reads_push, heads_read, fault_push}
 
 none_there : (i : Option ℕ) → is_there i ≡ false → i ≡ None
 none_there None e = refl

@@ -1,28 +1,25 @@
 -- A session's course, over all that it took.
-use Rattle.std.proofs.Common.{◌≡◌, ◌⊎◌, inl, inr, ℕ, ◌+◌, ◌<◌, ◌≤◌, ◌^◌, Bool, true, false, List, [], ◌∷◌, ◌++◌, length, take, drop, Option, Some, None, Result, if◌then◌else◌, refl, sym, ap, subst, ◌∙◌, append_assoc, append-nil, add-zero, arith, length-append}
-use Rattle.std.specs.Prelude.{nat_le}
-use Rattle.std.proofs.lemmas.List.{map-append, take-append-drop}
+use Rattle.std.proofs.Common.{◌≡◌, inl, inr, ℕ, ◌+◌, ◌<◌, ◌≤◌, ◌^◌, Bool, false, List, [], ◌∷◌, ◌++◌, length, take, Option, Result, refl, sym, ap, subst, ◌∙◌, append_assoc, append-nil, arith, length-append}
 use Rattle.avl_values.specs.declared.fault.Fault.{Fault}
-use Rattle.layout.specs.Rows.{Rows, Verdict, short, fault, judge}
+use Rattle.layout.specs.Rows.{Rows, short, fault, judge}
 use Rattle.item_streams.specs.Readers.{Reader, fresh}
 use Rattle.item_streams.specs.Streams.{Item, Reading, values}
 use Rattle.links.specs.Links.{LinkState, Moves, Traffic}
 use Rattle.links.proofs.Moving.{moves_as, moves_then}
-use Rattle.frame_layout.specs.Readings.{packet_in, packets_of, up_reading}
-use Rattle.frame_layout.specs.UpRows.{up_rows}
-use Rattle.frame_layout.specs.Values.{UpValue, login, packet, response}
+use Rattle.frame_layout.specs.Readings.{up_reading}
+use Rattle.frame_layout.specs.Values.{UpValue, login}
 use Rattle.shelf.specs.declared.receipt.AdmitFault.{AdmitFault}
 use Rattle.shelf.specs.declared.receipt.Receipt.{Receipt}
 use Rattle.session_core.specs.declared.served.Served.{Served}
 use Rattle.session_core.specs.declared.served.SessionEnd.{SessionEnd}
 use Rattle.session_core.specs.declared.served.SessionEnd.TheVariants as ends
-use Rattle.session_core.specs.Doings.{Doing, counted_in, Does, IsRefused, IsCut, Goes, Stops, Breaks}
-use Rattle.session_core.specs.Endings.{start, DoesAll, Ends, IsAtEnd}
+use Rattle.session_core.specs.Doings.{Doing, counted_in, Does, IsRefused, Stops}
+use Rattle.session_core.specs.Endings.{start, Ends}
 use Rattle.session_core.specs.Readings.{HadRead, Heads, Reads, ReadsFault}
-use Rattle.session_core.specs.Serving.{said_in, rest_verdict, login_in, Halt, all_dealt, IsAllDealt, IsBeforePacket, IsInAnswer, IsRefusal, IsUnbegun, HaltsBy, IsCourse, IsTold, IsAllWritten, OrdersAre, MayBeUncounted}
-use Rattle.session_core.specs.Talks.{Meaning, Talk, nobody, device, stranger, reply, next, text, after, packets, stores, records_in, imei_in, orders_in, is_stranger}
-use Rattle.session_core.proofs.Courses.{LoginFirst, login_first, first_of, login_same, bodies_in, bodies_of, bodies_then, bodies_of-then, bodies_size, bodies_total, packets_are, stranger_says, all_bodies, imei_is, none_before}
-use Rattle.session_core.proofs.Going.{after_then, text_then, packets_then, records_then, does_then}
+use Rattle.session_core.specs.Serving.{said_in, rest_verdict, login_in, Halt, all_dealt, IsAllDealt, IsBeforePacket, HaltsBy, IsCourse}
+use Rattle.session_core.specs.Talks.{Meaning, Talk, nobody, device, reply, next, text, after, packets, stores, records_in, imei_in, orders_in, is_stranger}
+use Rattle.session_core.proofs.Courses.{LoginFirst, login_first, first_of, login_same, imei_is, none_before}
+use Rattle.session_core.proofs.Going.{after_then, records_then, does_then}
 use Rattle.session_core.proofs.Reading.{nothing_read, values_then}
 
 -- What was read of all bytes taken.

@@ -1,5 +1,5 @@
 -- What is done for one item.
-use Rattle.std.proofs.Common.{◌≡◌, ℕ, suc, ◌+◌, ◌<◌, ◌≤◌, Bool, true, false, List, [], ◌∷◌, ◌++◌, length, take, Option, Some, None, Result, Ok, Err, OnOk, OnErr, if◌then◌else◌, refl, sym, ap, subst, ◌∙◌, append-nil, arith, length-append}
+use Rattle.std.proofs.Common.{◌≡◌, ℕ, suc, ◌+◌, ◌<◌, ◌≤◌, Bool, true, false, List, [], ◌∷◌, ◌++◌, length, take, Option, Result, Ok, Err, OnOk, OnErr, if◌then◌else◌, refl, sym, ap, subst, ◌∙◌, append-nil, arith, length-append}
 use Rattle.std.specs.Result.{is_err}
 use Rattle.std.proofs.lemmas.Bool.{le-leb, lt-leb}
 use Rattle.std.proofs.lemmas.List.{take-append-le}
@@ -15,7 +15,7 @@ use Rattle.layout.specs.Rows.{whole}
 use Rattle.record_layout.specs.RecordsOf.{records_of}
 use Rattle.record_layout.specs.declared.head.PacketHead.{PacketHead}
 use Rattle.frame_layout.specs.Readings.{IsFramedCommand}
-use Rattle.frame_layout.specs.Values.{UpValue, login, packet}
+use Rattle.frame_layout.specs.Values.{login, packet}
 use Rattle.shelf.specs.Calls.{Call}
 use Rattle.shelf.specs.declared.receipt.AdmitFault.{AdmitFault}
 use Rattle.shelf.specs.declared.receipt.Receipt.{Receipt}

@@ -1,5 +1,5 @@
 -- What is done for the items of a stream, and how it stops.
-use Rattle.std.specs.Prelude.{◌≡◌, ℕ, ◌+◌, ◌<◌, nat_le, Bool, false, List, [], ◌∷◌, ◌++◌, length, take, Option, Result, Ok, Err, if◌then◌else◌}
+use Rattle.std.specs.Prelude.{◌≡◌, ℕ, ◌+◌, ◌<◌, nat_le, Bool, false, List, [], ◌∷◌, ◌++◌, length, take, Option, Result, Err, if◌then◌else◌}
 use Rattle.avl_values.specs.declared.fault.Fault.{Fault}
 use Rattle.item_streams.specs.Readers.{Reader}
 use Rattle.links.specs.Links.{Moves, Traffic}

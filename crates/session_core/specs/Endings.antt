@@ -1,5 +1,5 @@
 -- How a session ends, over the bytes that it took.
-use Rattle.std.specs.Prelude.{◌≡◌, ◌⊎◌, ℕ, ◌<◌, ◌^◌, Bool, true, false, List, [], length, Option, None, Result, IfSome}
+use Rattle.std.specs.Prelude.{◌≡◌, ◌⊎◌, ℕ, ◌<◌, ◌^◌, Bool, true, false, List, [], length, Option, Result, IfSome}
 use Rattle.item_streams.specs.Readers.{Reader}
 use Rattle.links.specs.Links.{LinkState, Traffic}
 use Rattle.shelf.specs.declared.receipt.AdmitFault.{AdmitFault}

@@ -1,3 +1,5 @@
+pub mod Archived
+pub mod Complete
 pub mod Doings
 pub mod Endings
 pub mod Givings

@@ -1,5 +1,5 @@
 -- What was read of a stream up in some bytes, whatever had been read before them.
-use Rattle.std.specs.Prelude.{◌≡◌, ℕ, Bool, true, false, List, [], ◌∷◌, ◌++◌}
+use Rattle.std.specs.Prelude.{◌≡◌, ℕ, false, List, ◌++◌}
 use Rattle.avl_values.specs.declared.fault.Fault.{Fault}
 use Rattle.layout.specs.Rows.{fault}
 use Rattle.item_streams.specs.Readers.{HasRead, Reader, ReadsAs}

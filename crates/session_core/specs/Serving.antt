@@ -16,7 +16,7 @@ use Rattle.session_core.specs.declared.served.SessionEnd.{SessionEnd}
 use Rattle.session_core.specs.declared.served.SessionEnd.TheVariants.{Ended, EndedInside, LinkFault, Broken, Unknown, MediumFault, Down, LongEnough, NoMemory}
 use Rattle.session_core.specs.Doings.{counted_in}
 use Rattle.session_core.specs.Endings.{IsAtEnd}
-use Rattle.session_core.specs.SessionCalls.{AreCallsOf}
+use Rattle.session_core.specs.SessionCalls.{AreCallsOf, HaveReceipts}
 use Rattle.session_core.specs.Talks.{Meaning, Talk, nobody, device, reply, text, after, packets, stores, records_in, orders_in, is_stranger}
 
 -- what the items of the bytes taken say
@@ -183,6 +183,7 @@ pub record IsServed {S O : Type 0} (leaves : S → ℕ → List ℕ → Result R
   pub words : IsTold m known o p served taken written
   pub calls : List Call
   pub feeds : Feeds leaves s calls t
+  pub receipts : HaveReceipts served taken calls
   pub same_mark : mark t ≡ mark s
   pub tells : told t ≡ with_calls (map (brought (mark s)) calls) (told s)
   pub of_session : AreCallsOf served (mark s) taken (map (brought (mark s)) calls)

@@ -1,10 +1,10 @@
 -- The calls of `admit` that a session makes.
-use Rattle.std.specs.Prelude.{◌≡◌, ℕ, ◌+◌, false, List, [], ◌∷◌, ◌++◌, length, map, Option, Some, Err}
+use Rattle.std.specs.Prelude.{◌≡◌, ℕ, ◌+◌, false, List, [], ◌∷◌, ◌++◌, length, map, Some, Err}
 use Rattle.avl_values.specs.Record.{Record}
 use Rattle.record_layout.specs.RecordsOf.{records_of}
 use Rattle.frame_layout.specs.Readings.{packets_of, up_reading}
 use Rattle.shelf.specs.Admits.{Answer}
-use Rattle.shelf.specs.Calls.{Brought, Mark}
+use Rattle.shelf.specs.Calls.{AreStored, Brought, Call, Mark}
 use Rattle.shelf.specs.Histories.{Each, HasPlaces}
 use Rattle.shelf.specs.declared.receipt.AdmitFault.{AdmitFault}
 use Rattle.shelf.specs.declared.receipt.AdmitFault.TheVariants as refused
@@ -57,3 +57,18 @@ pub record AreCallsOf (served : Served) (mark : Mark) (taken : List ℕ) (calls 
   pub follows : MayFollow served.end more
   pub others : List (List Record)
   pub bodies : map records_of (packets_of (up_reading false taken).items) ≡ map (λ b. b.records) calls ++ others
+
+-- the bodies of packets
+abbrev pub bodies_of : List (ℕ × List ℕ) → List (List ℕ)
+bodies_of packets = map (λ p. p.1) packets
+
+-- Each packet that was counted, a device and a body, has a receipt of this very body, and these are the first data frames.
+pub record HaveReceipts (served : Served) (taken : List ℕ) (calls : List Call) : Type 0 where
+  pub packets : List (ℕ × List ℕ)
+  pub first : List Call
+  pub last : List Call
+  pub are : calls ≡ first ++ last
+  pub stored : AreStored packets first
+  pub frames : served.frames ≡ length packets
+  pub others : List (List ℕ)
+  pub bodies : packets_of (up_reading false taken).items ≡ bodies_of packets ++ others

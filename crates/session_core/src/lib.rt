@@ -2,6 +2,7 @@
 #![tactic(auto)]
 
 mod known;
+mod laws;
 mod orders;
 mod serve;
 mod served;
@@ -9,6 +10,7 @@ mod session;
 mod work;
 
 pub use known::{ImeiList, Known};
+pub use laws::{counted_is_archived, well_formed_ends};
 pub use orders::{NoOrders, Orders};
 pub use serve::serve_link;
 pub use served::{Served, SessionEnd};

@@ -1,4 +1,4 @@
-use Rattle.std.proofs.Common.{◌≡◌, List, ℕ, Ok, sym, ap, subst, ◌∙◌}
+use Rattle.std.proofs.Common.{Ok, sym, ap, subst, ◌∙◌}
 use Rattle.record_layout.specs.RecordsOf.{count_of}
 use Rattle.session_core.specs.Works.{meaning}
 use Rattle.session_core.proofs.Working.{packet_done, count_cut, order_cut, sent_whole, sent_part}

@@ -1,12 +1,10 @@
-use Rattle.std.proofs.Common.{◌≡◌, sym, ap, subst, ◌∙◌}
-use Rattle.frame_layout.specs.Values.{packet}
+use Rattle.std.proofs.Common.{sym, ap, subst, ◌∙◌}
 use Rattle.session_core.specs.Works.{meaning}
 use Rattle.session_core.specs.Knowing.{knows}
 use Rattle.session_core.specs.Sessions.{Heard}
 use Rattle.command_layout.specs.Answers.{value_in}
 use Rattle.command_layout.specs.declared.way.Way.TheVariants.{Up}
 use Rattle.session_core.specs.Talks.{told_by}
-use Rattle.session_core.specs.declared.session.Step.TheVariants.{More, Login, Packet, Response, Broken}
 use Rattle.session_core.proofs.Taking.{more_took, broken_took, login_took, packet_took, response_took, packet_has_imei, response_has_imei}
 use Rattle.session_core.proofs.work.take_one.Goals as goal
 
