@@ -16,7 +16,7 @@ use Rattle.flash_ring.specs.Images.{MayClose, has_slot}
 use Rattle.flash_ring.specs.Records.{without, recs_in}
 use Rattle.flash_ring.proofs.Closes.{has-cases, length-closed_all}
 use Rattle.flash_ring.proofs.Entries.{Each, IsEntry, entries-open}
-use Rattle.flash_ring.proofs.Laws.{Apart, entries-apart, entries-kept, kept}
+use Rattle.flash_ring.proofs.HeldRecords.{Apart, entries-apart, entries-kept, kept}
 use Rattle.flash_ring.proofs.Slots.{eqb-not}
 
 -- a slot once these were closed
@@ -138,7 +138,7 @@ in-front r x xs same = (0, omega arith, same)
 in-rest : (r : Record) (x : Record) (xs : List Record) → Contains xs r → Contains (x ∷ xs) r
 in-rest r x xs (k, low, is) = (suc k, omega arith, is)
 
-contains-cases : (r : Record) (x : Record) (xs : List Record) → Contains (x ∷ xs) r → (x ≡ r) ⊎ Contains xs r
+pub contains-cases : (r : Record) (x : Record) (xs : List Record) → Contains (x ∷ xs) r → (x ≡ r) ⊎ Contains xs r
 contains-cases r x xs (zero, low, is) = inl is
 contains-cases r x xs (suc k, low, is) = inr (k, omega arith, is)
 

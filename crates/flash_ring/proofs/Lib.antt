@@ -2,11 +2,12 @@ pub mod Batches
 pub mod Closes
 pub mod Entries
 pub mod Formats
-pub mod Laws
+pub mod HeldRecords
 pub mod Loads
 pub mod Ranks
 pub mod Restarts
 pub mod Rings
+pub mod Selections
 pub mod Sequences
 pub mod Slots
 pub mod Stores

@@ -39,10 +39,12 @@ held_at slots k j x h is =
     ]
 
 pub sound-set : (slots : List (Option Held)) (k : ℕ) (h : Held) → AreSound slots → IsSoundHeld h → AreSound (set slots k (Some h))
-sound-set slots k h were sound j other is = elim (held_at slots k j (Some h) other is) as (λ _. IsSoundHeld other) [
-  | inl new ↦ let same : h ≡ other = cc in subst IsSoundHeld same sound
-  | inr old ↦ were j other old
-]
+sound-set slots k h were sound = record {
+  each = λ j other is. elim (held_at slots k j (Some h) other is) as (λ _. IsSoundHeld other) [
+    | inl new ↦ let same : h ≡ other = cc in subst IsSoundHeld same sound
+    | inr old ↦ were.each j other old
+  ];
+}
 
 pub below-set : (slots : List (Option Held)) (k : ℕ) (h : Held) (next : ℕ) → AreBelow next slots → h.seq ≡ next → AreBelow (next + 1) (set slots k (Some h))
 below-set slots k h next were seq j other is = elim (held_at slots k j (Some h) other is) as (λ _. other.seq < next + 1) [
@@ -55,7 +57,7 @@ closed-at slots k j h is = elim (held_at slots k j None h is) as (λ _. slice_ge
 
 pub sound-closed : (ks : List ℕ) (slots : List (Option Held)) → AreSound slots → AreSound (closed_all ks slots)
 sound-closed [] slots were = were
-sound-closed (k ∷ ks) slots were = sound-closed ks (set slots k None) (λ j h is. were j h (closed-at slots k j h is))
+sound-closed (k ∷ ks) slots were = sound-closed ks (set slots k None) (record { each = λ j h is. were.each j h (closed-at slots k j h is) })
 
 pub below-closed : (ks : List ℕ) (slots : List (Option Held)) (next : ℕ) → AreBelow next slots → AreBelow next (closed_all ks slots)
 below-closed [] slots next were = were
@@ -106,11 +108,11 @@ seq_below slots k h low is = let b = next_of-below slots k h (slice_get-get_or s
 
 pub next_of-end : (slots : List (Option Held)) → AreSound slots → next_of slots ≤ 2 ^ 63
 next_of-end [] were = omega arith
-next_of-end (None ∷ slots) were = next_of-end slots (λ k h is. were (suc k) h is)
+next_of-end (None ∷ slots) were = next_of-end slots (record { each = λ k h is. were.each (suc k) h is })
 next_of-end (Some x ∷ slots) were =
-    let rest = next_of-end slots (λ k h is. were (suc k) h is) in
-    let this = were zero x refl in
-    omega (arith, this.0)
+    let rest = next_of-end slots (record { each = λ k h is. were.each (suc k) h is }) in
+    let this = were.each zero x refl in
+    omega (arith, this.seq)
 
 -- what a call left whose answer was tested
 pub passed : {T E P : Type 0} (r : Result T E) (failed : Bool) → failed ≡ is_err r → failed ≡ false → OnOk r P → P
@@ -186,7 +188,7 @@ pub rec_at_past : (slots : List (Option Held)) (k : ℕ) → length slots ≤ k 
 rec_at_past slots k past = ap rec_in (slice_get_past slots k past)
 
 pub sound_at : (v : RingView) (k : ℕ) (x : Option Held) (h : Held) → IsUp v → k < length v.slots → x ≡ get_or v.slots k x → x ≡ Some h → IsSomeRecord h.rec.codec h.rec.bytes
-sound_at v k x h is low read some = (is.sound k h (slice_get-get_or v.slots k x low ∙ ap Some (sym read ∙ some))).1
+sound_at v k x h is low read some = (is.sound.each k h (slice_get-get_or v.slots k x low ∙ ap Some (sym read ∙ some))).whole
 
 -- the oldest record of a full ring
 pub is_oldest : (slots : List (Option Held)) (k : ℕ) → 0 < length slots → is_full slots ≡ true → k ≡ first_slot (entries_of Oldest slots) → IsOldest slots k

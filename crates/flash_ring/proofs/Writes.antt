@@ -129,7 +129,7 @@ module _ (n slot : ℕ) (base : List ℕ) (slots : List (Option Held)) (h : Held
         ∙ get_or-written_there 0 (272 * slot + 1) (body_of h) base p low)
 
     gate-holds : get_or (slot_bytes slot image) 0 0 ≡ 0xA5 → slot_of (slot_bytes slot image) ≡ Some h
-    gate-holds gate = ap slot_of (opened gate) ∙ slot_of-layout h fits (omega (arith, sound.0))
+    gate-holds gate = ap slot_of (opened gate) ∙ slot_of-layout h fits (omega (arith, sound.seq))
 
     gate_sound : IsSoundSlot (slot_bytes slot image)
     gate_sound gate = subst HoldsSound (sym (gate-holds gate)) sound

@@ -1,5 +1,5 @@
 -- What a slot of the flash holds, as the layers above see it.
-use Rattle.std.specs.Prelude.{◌≡◌, ◌⊎◌, ℕ, suc, ◌+◌, ◌<◌, ◌^◌, max, Bool, true, false, List, [], ◌∷◌, Option, Some, None, set, slice_get}
+use Rattle.std.specs.Prelude.{◌≡◌, ◌⊎◌, ℕ, suc, ◌+◌, ◌<◌, ◌≤◌, ◌^◌, max, Bool, true, false, List, [], ◌∷◌, length, Option, Some, None, set, slice_get}
 use Rattle.avl_values.specs.Record.{Record}
 use Rattle.record_codecs.specs.SomeRecord.{IsSomeRecord}
 
@@ -8,13 +8,16 @@ pub record Held : Type 0 where
   pub seq : ℕ
   pub rec : Record
 
--- A slot that holds a record is sound where its sequence is below 2^63 and its bytes are one whole record of its codec.
-abbrev pub IsSoundHeld : Held → Type 0
-IsSoundHeld h = (h.seq < 2 ^ 63) × IsSomeRecord h.rec.codec h.rec.bytes
+-- A slot that holds a record is sound where its sequence is below 2^63 and its bytes are one whole record of its codec, of at
+-- most 255 bytes.
+pub record IsSoundHeld (h : Held) : Type 0 where
+  pub seq : h.seq < 2 ^ 63
+  pub whole : IsSomeRecord h.rec.codec h.rec.bytes
+  pub few : length h.rec.bytes ≤ 255
 
 -- each record that is held is sound
-abbrev pub AreSound : List (Option Held) → Type 0
-AreSound slots = (k : ℕ) (h : Held) → slice_get slots k ≡ Some (Some h) → IsSoundHeld h
+pub record AreSound (slots : List (Option Held)) : Type 0 where
+  pub each : (k : ℕ) (h : Held) → slice_get slots k ≡ Some (Some h) → IsSoundHeld h
 
 -- each sequence that is held is below this one
 abbrev pub AreBelow : ℕ → List (Option Held) → Type 0

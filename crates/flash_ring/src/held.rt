@@ -1,5 +1,6 @@
 ghost use Rattle.std.specs.Prelude.{◌≡◌, ◌↔◌, ◌≤◌, ◌<◌, ◌^◌, ◌+◌, ◌++◌, length, replicate, slice_index, Some, IfOk, IfSome, IfNone, OnOk, OnErr};
 ghost use Rattle.avl_values.specs.Codec.{codec_of};
+ghost use Rattle.avl_values.specs.Viewed.{record_of};
 ghost use Rattle.record_codecs.specs.SomeRecord.{IsSomeRecord};
 ghost use Rattle.flash_ring.specs.Held.{IsSoundHeld};
 ghost use Rattle.flash_ring.specs.Slot.{HoldsSound, IsSoundSlot, body_of, fields_of, slot_of};
@@ -34,6 +35,17 @@ impl Model for Held {
 }
 
 impl Held {
+    /// A record under a sequence.
+    pub fn new(seq: u64, rec: &Rec) -> Held
+        ensures value { result ≡ record { seq = seq; rec = record_of rec.now } }
+        ensures few { length rec.now.bytes.items ≤ 255 }
+    {
+        Held {
+            seq,
+            rec: Rec::new(rec.codec, rec.bytes.as_slice()),
+        }
+    }
+
     /// The slot's bytes behind its gate.
     pub fn body(&self) -> ArrayVec<u8, 271>
         ensures bytes { result.items ≡ body_of self.now }
@@ -70,8 +82,9 @@ fn append_zeros(body: &mut ArrayVec<u8, 271>, count: usize)
 #[derive(Clone, Copy, Debug, PartialEq, Eq)]
 pub struct Unsound;
 
-/// What a slot's bytes hold.
-pub fn read_slot(bytes: &[u8; SLOT_BYTES]) -> Result<Option<Held>, Unsound>
+/// What a whole slot's bytes hold.
+pub fn read_slot(bytes: &[u8]) -> Result<Option<Held>, Unsound>
+    requires whole { length bytes.now ≡ 272 }
     ensures holds { IfOk result (λ held. held ≡ slot_of bytes.now) }
     ensures sound { OnOk result (IsSoundSlot bytes.now) }
     ensures unsound { OnErr result (IsSoundSlot bytes.now → ⊥) }
@@ -86,7 +99,8 @@ pub fn read_slot(bytes: &[u8; SLOT_BYTES]) -> Result<Option<Held>, Unsound>
 }
 
 // The record behind an open gate, where it is sound.
-fn read_fields(bytes: &[u8; SLOT_BYTES]) -> Option<Held>
+fn read_fields(bytes: &[u8]) -> Option<Held>
+    requires whole { length bytes.now ≡ 272 }
     ensures some { IfSome result (λ held. fields_of bytes.now (codec_of (slice_index bytes.now 1)) ≡ Some held) }
     ensures sound { IfSome result IsSoundHeld }
     ensures none { IfNone result (HoldsSound (fields_of bytes.now (codec_of (slice_index bytes.now 1))) → ⊥) }

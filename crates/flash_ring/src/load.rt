@@ -1,16 +1,19 @@
-ghost use Rattle.std.specs.Prelude.{◌≡◌, ◌≢◌, ◌+◌, ◌*◌, ◌<◌, ◌≤◌, ℕ, length, Some, None, IfOk, IfErr, OnOk, OnErr, IsErrOf};
+ghost use Rattle.std.specs.Prelude.{◌≡◌, ◌≢◌, ◌⊎◌, ◌+◌, ◌*◌, ◌<◌, ◌≤◌, ◌^◌, ℕ, false, length, Some, None, IfOk, IfErr, OnOk, OnErr, IsErrOf, IsTrue};
 ghost use Rattle.medium_model.specs.CallsLeft.{Fails};
-ghost use Rattle.medium_model.specs.State.{CountedMaybe, CountedSome, IfTold};
+ghost use Rattle.medium_model.specs.Content.{after_sync};
+ghost use Rattle.medium_model.specs.Images.{IsEither};
+ghost use Rattle.medium_model.specs.State.{CountedMaybe, CountedSome, IfTold, IsRun, told};
 ghost use Rattle.medium_model.specs.PowerLoss.{EveryImage, WasImage};
 ghost use Rattle.flash_ring.specs.Held.{AreSound};
 ghost use Rattle.flash_ring.specs.Images.{IsSettled};
-ghost use Rattle.flash_ring.specs.Refusal.{Refuses, as_open};
+ghost use Rattle.flash_ring.specs.Refusal.{Refuses, RefusesOpen, as_open};
 ghost use Rattle.flash_ring.specs.Slot.{IsFlash, slots_of};
 ghost use Rattle.flash_ring.specs.declared.load.ReopenFault.TheVariants.{MediumFault};
+ghost use Rattle.flash_ring.specs.declared.load.OpenFault.TheVariants as opening;
 
 use crate::held::{Held, SLOT_BYTES, Unsound, read_slot};
 use avl_values::{Failed, NoMemory};
-use medium_model::Medium;
+use medium_model::{Medium, ReserveError};
 use std::alloc::Global;
 
 /// Why a ring isn't opened again. It is down.
@@ -45,14 +48,23 @@ pub enum OpenFault {
     NoMemory,
 }
 
-/// The same refusal, by `open`.
-pub fn open_fault(fault: ReopenFault) -> OpenFault
-    ensures { result ≡ as_open fault }
-{
-    match fault {
-        ReopenFault::MediumFault => OpenFault::MediumFault,
-        ReopenFault::WrongSize { got, wanted } => OpenFault::WrongSize { got, wanted },
-        ReopenFault::BadSlot { slot } => OpenFault::BadSlot { slot },
+impl From<ReopenFault> for OpenFault {
+    ghost from_gives = { λ fault e. e ≡ as_open fault };
+
+    fn from(fault: ReopenFault) -> Self {
+        match fault {
+            ReopenFault::MediumFault => OpenFault::MediumFault,
+            ReopenFault::WrongSize { got, wanted } => OpenFault::WrongSize { got, wanted },
+            ReopenFault::BadSlot { slot } => OpenFault::BadSlot { slot },
+        }
+    }
+}
+
+impl From<NoMemory> for OpenFault {
+    ghost from_gives = { λ _ e. e ≡ opening.NoMemory };
+
+    fn from(_: NoMemory) -> Self {
+        OpenFault::NoMemory
     }
 }
 
@@ -67,6 +79,14 @@ pub fn closed_slots(alloc: Global, slots: u16) -> Result<Vec<Option<Held>>, NoMe
     Ok(closed)
 }
 
+// Whether a read gave less than a whole slot. That is no closed slot: the medium ends there.
+fn is_short(count: usize) -> bool
+    ensures short { IsTrue result → count < 272 }
+    ensures whole { result ≡ false → 272 ≤ count }
+{
+    count < SLOT_BYTES
+}
+
 // Reads every slot in place of what was known of it.
 fn read_slots<M: Medium>(medium: &mut M, slots: &mut [Option<Held>]) -> Result<(), ReopenFault>
     requires few { length slots.old ≤ 4096 }
@@ -78,8 +98,14 @@ fn read_slots<M: Medium>(medium: &mut M, slots: &mut [Option<Held>]) -> Result<(
 {
     for slot in 0..slots.len() {
         let mut bytes = [0; SLOT_BYTES];
-        medium.read(272 * slot as u64, &mut bytes)?;
-        match read_slot(&bytes) {
+        let count = medium.read((SLOT_BYTES * slot) as u64, &mut bytes)?;
+        if is_short(count) {
+            return Err(ReopenFault::WrongSize {
+                got: (SLOT_BYTES * slot + count) as u64,
+                wanted: (SLOT_BYTES * slots.len()) as u64,
+            });
+        }
+        match read_slot(&bytes[..count]) {
             Ok(held) => slots[slot] = held,
             Err(Unsound) => return Err(ReopenFault::BadSlot { slot: slot as u16 }),
         }
@@ -92,7 +118,10 @@ pub fn load<M: Medium>(medium: &mut M, slots: &mut [Option<Held>]) -> Result<(),
     requires few { length slots.old ≤ 4096 }
     ensures settled { OnOk result (IfTold (M.state medium.new).content (IsSettled (length slots.old) slots.new)) }
     ensures holds { OnOk result (IfTold (M.state medium.old).content (λ c. slots.new ≡ slots_of (length slots.old) c.reads)) }
+    ensures flash { OnOk result (IfTold (M.state medium.old).content (λ c. IsFlash (length slots.old) c.reads)) }
     ensures sound { OnOk result (AreSound slots.new) }
+    ensures synced { OnOk result ((M.state medium.new).content ≡ told after_sync (M.state medium.old).content) }
+    ensures either { IsEither (M.state medium.old).content (told after_sync (M.state medium.old).content) (M.state medium.new).content }
     ensures images { EveryImage (M.state medium.new).content (WasImage (M.state medium.old).content) }
     ensures refused { IfErr result (λ e. IfTold (M.state medium.old).content (λ c. Refuses (length slots.old) c.reads e)) }
     ensures first_call { Fails 1 (M.state medium.old).left → IsErrOf result ReopenFault.MediumFault }
@@ -100,7 +129,7 @@ pub fn load<M: Medium>(medium: &mut M, slots: &mut [Option<Held>]) -> Result<(),
 {
     medium.sync()?;
     let got = medium.len()?;
-    let wanted = 272 * slots.len() as u64;
+    let wanted = (SLOT_BYTES * slots.len()) as u64;
     if got != wanted {
         return Err(ReopenFault::WrongSize { got, wanted });
     }
@@ -114,11 +143,54 @@ pub fn load_all<M: Medium>(medium: &mut M, slots: &mut Vec<Option<Held>>) -> Res
     ensures size { length slots.new.items ≡ length slots.old.items }
     ensures settled { OnOk result (IfTold (M.state medium.new).content (IsSettled (length slots.old.items) slots.new.items)) }
     ensures holds { OnOk result (IfTold (M.state medium.old).content (λ c. slots.new.items ≡ slots_of (length slots.old.items) c.reads)) }
+    ensures flash { OnOk result (IfTold (M.state medium.old).content (λ c. IsFlash (length slots.old.items) c.reads)) }
     ensures sound { OnOk result (AreSound slots.new.items) }
+    ensures synced { OnOk result ((M.state medium.new).content ≡ told after_sync (M.state medium.old).content) }
+    ensures either { IsEither (M.state medium.old).content (told after_sync (M.state medium.old).content) (M.state medium.new).content }
     ensures images { EveryImage (M.state medium.new).content (WasImage (M.state medium.old).content) }
     ensures refused { IfErr result (λ e. IfTold (M.state medium.old).content (λ c. Refuses (length slots.old.items) c.reads e)) }
     ensures first_call { Fails 1 (M.state medium.old).left → IsErrOf result ReopenFault.MediumFault }
     ensures counted { CountedSome (M.state medium.old) (M.state medium.new) (IsErrOf result ReopenFault.MediumFault) }
 {
     load(medium, slots.as_mut_slice())
+}
+
+// Makes the medium ready for writes up to a place.
+fn make_ready<M: Medium>(medium: &mut M, to: u64) -> Result<(), OpenFault>
+    requires { to ≤ 2 ^ 62 }
+    ensures enough { OnOk result (to ≤ (M.state medium.new).ready) }
+    ensures content { (M.state medium.new).content ≡ (M.state medium.old).content }
+    ensures faults { IfErr result (λ e. (e ≡ OpenFault.MediumFault) ⊎ (e ≡ OpenFault.NoMemory)) }
+    ensures run { IsRun (M.state medium.old) (M.state medium.new) (IsErrOf result OpenFault.MediumFault) }
+{
+    match medium.reserve(to) {
+        Ok(()) => Ok(()),
+        Err(ReserveError::Failed) => Err(OpenFault::MediumFault),
+        Err(ReserveError::NoMemory) => Err(OpenFault::NoMemory),
+    }
+}
+
+/// Makes the medium ready, takes memory for so many slots, and loads them.
+pub fn load_anew<M: Medium>(
+    alloc: Global,
+    medium: &mut M,
+    slots: u16,
+) -> Result<Vec<Option<Held>>, OpenFault>
+    requires few { slots ≤ 4096 }
+    ensures size { IfOk result (λ found. length found.items ≡ slots) }
+    ensures ready { OnOk result (272 * slots ≤ (M.state medium.new).ready) }
+    ensures settled { IfOk result (λ found. IfTold (M.state medium.new).content (IsSettled slots found.items)) }
+    ensures holds { IfOk result (λ found. IfTold (M.state medium.old).content (λ c. found.items ≡ slots_of slots c.reads)) }
+    ensures flash { OnOk result (IfTold (M.state medium.old).content (λ c. IsFlash slots c.reads)) }
+    ensures sound { IfOk result (λ found. AreSound found.items) }
+    ensures synced { OnOk result ((M.state medium.new).content ≡ told after_sync (M.state medium.old).content) }
+    ensures either { IsEither (M.state medium.old).content (told after_sync (M.state medium.old).content) (M.state medium.new).content }
+    ensures images { EveryImage (M.state medium.new).content (WasImage (M.state medium.old).content) }
+    ensures refused { IfErr result (λ e. IfTold (M.state medium.old).content (λ c. RefusesOpen slots c.reads e)) }
+    ensures run { IsRun (M.state medium.old) (M.state medium.new) (IsErrOf result OpenFault.MediumFault) }
+{
+    make_ready(medium, SLOT_BYTES as u64 * slots as u64)?;
+    let mut found = closed_slots(alloc, slots)?;
+    load_all(medium, &mut found)?;
+    Ok(found)
 }

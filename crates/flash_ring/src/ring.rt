@@ -1,9 +1,8 @@
-ghost use Rattle.std.specs.Prelude.{◌≡◌, ◌≢◌, ◌⊎◌, ◌↔◌, ◌+◌, ◌*◌, ◌<◌, ◌≤◌, ◌^◌, true, false, ℕ, [], ◌∷◌, drop, length, replicate, set, slice_get, Some, None, IfNone, IfSome, IfOk, IfErr, OnOk, OnErr, IsOk, IsErr, IsErrOf};
-ghost use Rattle.avl_values.specs.Causes.{Rose};
+ghost use Rattle.std.specs.Prelude.{◌≡◌, ◌≢◌, ◌⊎◌, ◌↔◌, ◌+◌, ◌*◌, ◌<◌, ◌≤◌, ◌^◌, true, false, ℕ, [], ◌∷◌, drop, length, replicate, set, slice_get, Some, None, IfNone, IfSome, IfOk, IfErr, OnOk, OnErr, IsOk, IsErr, IsErrOf, IsSome};
 ghost use Rattle.avl_values.specs.Viewed.{record_of};
 ghost use Rattle.medium_model.specs.CallsLeft.{Fails, after, unlimited};
-ghost use Rattle.medium_model.specs.Content.{settled};
-ghost use Rattle.medium_model.specs.State.{CountedSome, Counted, IfTold};
+ghost use Rattle.medium_model.specs.Content.{after_sync, settled};
+ghost use Rattle.medium_model.specs.State.{Counted, CountedSome, IfTold, IsRestarted, IsRun, told};
 ghost use Rattle.medium_model.specs.PowerLoss.{EveryImage, WasImage};
 ghost use Rattle.record_codecs.specs.SomeRecord.{IsSomeRecord};
 ghost use Rattle.flash_ring.specs.Entries.{IsOldest, entries_of, first_slot, held_of, selected, with_room};
@@ -12,18 +11,18 @@ ghost use Rattle.flash_ring.specs.Images.{AreDistinct, AreOpen, MayClose, Others
 ghost use Rattle.flash_ring.specs.Refusal.{Refuses, RefusesOpen};
 ghost use Rattle.flash_ring.specs.Ring.{EachHolds, EverySound, IsDurable, MayHold, put_calls, room_calls};
 ghost use Rattle.medium_model.specs.Images.{IsEither};
-ghost use Rattle.flash_ring.specs.Slot.{slots_of};
+ghost use Rattle.flash_ring.specs.Slot.{IsFlash, slots_of};
 
 use crate::Order;
 use crate::close::close_slots;
 use crate::format::format;
 use crate::held::Held;
-use crate::load::{OpenFault, ReopenFault, closed_slots, load_all, open_fault};
+use crate::load::{OpenFault, ReopenFault, load_all, load_anew};
 use crate::rank::{count_open, oldest_slot, select};
 use crate::store::store;
 use arrayvec::ArrayVec;
-use avl_values::{Failed, MediumFault, NoMemory, Rec};
-use medium_model::{Bench, Medium, ReserveError, Tear};
+use avl_values::{Failed, MediumFault, Rec};
+use medium_model::{Bench, Medium, Tear};
 use std::alloc::Global;
 use std::marker::Model;
 
@@ -142,27 +141,22 @@ impl<M: Medium> Ring<M> {
         ensures holds { IfOk result (λ r. IfTold (M.state medium).content (λ c. r.slots ≡ slots_of slots c.reads)) }
         ensures next { IfOk result (λ r. r.next ≡ next_of r.slots) }
 
+        // It writes nothing: what is read stays. What was found there is sound, or is why it is refused.
+        ensures synced { IfOk result (λ r. r.medium.content ≡ told after_sync (M.state medium).content) }
+        ensures either_err { IfErr result (λ e. IsEither (M.state medium).content (told after_sync (M.state medium).content) (M.state e.1).content) }
+        ensures flash { OnOk result (IfTold (M.state medium).content (λ c. IsFlash slots c.reads)) }
+        ensures refused { IfErr result (λ e. IfTold (M.state medium).content (λ c. RefusesOpen slots c.reads e.0)) }
+
         // It adds no image, also where it fails.
         ensures images { IfOk result (λ r. EveryImage r.medium.content (WasImage (M.state medium).content)) }
         ensures images_err { IfErr result (λ e. EveryImage (M.state e.1).content (WasImage (M.state medium).content)) }
 
-        ensures refused { IfErr result (λ e. IfTold (M.state medium).content (λ c. RefusesOpen slots c.reads e.0)) }
-        ensures cause { IfErr result (λ e. e.0 ≡ OpenFault.MediumFault → Rose (M.state medium).faults (M.state e.1).faults) }
-        ensures never_fails { (M.state medium).left ≡ unlimited → IfErr result (λ e. e.0 ≡ OpenFault.MediumFault → ⊥) }
-        ensures unlimited { (M.state medium).left ≡ unlimited → IfOk result (λ r. r.medium.left ≡ unlimited) }
+        ensures run { IfOk result (λ r. IsRun (M.state medium) r.medium ⊥) }
+        ensures run_err { IfErr result (λ e. IsRun (M.state medium) (M.state e.1) (e.0 ≡ OpenFault.MediumFault)) }
     {
         let mut medium = medium;
-        match medium.reserve(272 * slots as u64) {
-            Ok(()) => {}
-            Err(ReserveError::Failed) => return Err((OpenFault::MediumFault, medium)),
-            Err(ReserveError::NoMemory) => return Err((OpenFault::NoMemory, medium)),
-        }
-        let mut found = match closed_slots(alloc, slots) {
-            Ok(found) => found,
-            Err(NoMemory) => return Err((OpenFault::NoMemory, medium)),
-        };
-        match load_all(&mut medium, &mut found) {
-            Ok(()) => {
+        match load_anew(alloc, &mut medium, slots) {
+            Ok(found) => {
                 let next = next_after(&found);
                 Ok(Ring {
                     medium,
@@ -171,7 +165,7 @@ impl<M: Medium> Ring<M> {
                     down: false,
                 })
             }
-            Err(fault) => Err((open_fault(fault), medium)),
+            Err(fault) => Err((fault, medium)),
         }
     }
 
@@ -183,10 +177,15 @@ impl<M: Medium> Ring<M> {
         ensures next { OnOk result (self.new.next ≡ next_of self.new.slots) }
         ensures down { OnErr result (self.new.down ≡ true) }
 
+        // It writes nothing: what is read stays. What was found there is sound, or is why it is refused.
+        ensures synced { OnOk result (self.new.medium.content ≡ told after_sync self.old.medium.content) }
+        ensures either { IsEither self.old.medium.content (told after_sync self.old.medium.content) self.new.medium.content }
+        ensures flash { OnOk result (IfTold self.old.medium.content (λ c. IsFlash (length self.old.slots) c.reads)) }
+        ensures refused { IfErr result (λ e. IfTold self.old.medium.content (λ c. Refuses (length self.old.slots) c.reads e)) }
+
         // It adds no image, also where it fails.
         ensures images { EveryImage self.new.medium.content (WasImage self.old.medium.content) }
 
-        ensures refused { IfErr result (λ e. IfTold self.old.medium.content (λ c. Refuses (length self.old.slots) c.reads e)) }
         ensures first_call { Fails 1 self.old.medium.left → IsErrOf result ReopenFault.MediumFault }
         ensures counted { CountedSome self.old.medium self.new.medium (IsErrOf result ReopenFault.MediumFault) }
     {
@@ -249,10 +248,7 @@ impl<M: Medium> Ring<M> {
         let Some(slot) = find_closed(&self.slots) else {
             unreachable!()
         };
-        let held = Held {
-            seq: self.next,
-            rec: rec.copy(),
-        };
+        let held = Held::new(self.next, rec);
         if store(&mut self.medium, &self.slots, slot, &held).is_err() {
             self.down = true;
             return Err(PutFault::MediumFault);
@@ -372,13 +368,14 @@ impl<M: Medium> Ring<M> {
     where
         M: Bench,
         requires { self.old.medium.left ≡ unlimited }
-        ensures { self.new ≡ record self.old { medium = record self.old.medium { left = after calls } } }
+        ensures armed { self.new ≡ record self.old { medium = record self.old.medium { left = after calls } } }
+        ensures told { IsSome self.old.medium.content }
     {
         self.medium.arm(calls, tear);
     }
 
-    /// The power comes back: the bench reads as one of the images that the power loss might have left, and the ring is opened
-    /// again. It takes no memory.
+    /// The power comes back: the bench reads as one of the images that the power loss might have left, all of it durable, and the
+    /// ring is opened again. It takes no memory, and no call of the medium fails.
     pub fn restart(&mut self) -> Result<(), ReopenFault>
     where
         M: Bench,
@@ -388,6 +385,12 @@ impl<M: Medium> Ring<M> {
         ensures next { OnOk result (self.new.next ≡ next_of self.new.slots) }
         ensures down { OnErr result (self.new.down ≡ true) }
         ensures fits { EverySound self.old → IsOk result }
+        ensures restarted { IsRestarted self.old.medium.content self.new.medium.content }
+        ensures told { IsSome self.old.medium.content }
+        ensures refused { IfErr result (λ e. IfTold self.new.medium.content (λ c. Refuses (length self.old.slots) c.reads e)) }
+        ensures never_fails { IsErrOf result ReopenFault.MediumFault → ⊥ }
+        ensures ready { self.old.medium.ready ≤ self.new.medium.ready }
+        ensures faults { self.old.medium.faults ≤ self.new.medium.faults }
         ensures unlimited { self.new.medium.left ≡ unlimited }
     {
         self.down = true;

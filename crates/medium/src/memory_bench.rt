@@ -5,7 +5,7 @@ ghost use Rattle.medium_model.specs.CallsLeft.{MayFail, unlimited, after};
 ghost use Rattle.medium_model.specs.Content.{after_write, after_sync, settled};
 ghost use Rattle.medium_model.specs.PowerLoss.{IsImage};
 ghost use Rattle.medium.specs.Memory.{after_torn, all_alike, bench_state, image_of, left_told};
-ghost use Rattle.medium_model.specs.State.{Counted, IfTold, TornWrite, told};
+ghost use Rattle.medium_model.specs.State.{Counted, IfTold, IsRestarted, TornWrite, told};
 
 use crate::memory_content::MemoryContent;
 use crate::power::Power;
@@ -210,7 +210,7 @@ impl Bench for MemoryBench {
     }
 
     fn restart(&mut self)
-        ensures image { (image : List ℕ) × ((bench_state self.new).content ≡ Some (settled image)) × IfTold (bench_state self.old).content (λ c. IsImage c image) }
+        ensures image { IsRestarted (bench_state self.old).content (bench_state self.new).content }
         ensures unarmed { (bench_state self.new).left ≡ unlimited }
         ensures ready { self.old.ready ≤ self.new.ready }
         ensures faults { self.new.faults ≡ self.old.faults }

@@ -241,7 +241,3 @@ holds-map IsSound meaning P Q (Some c) so every = λ image im. let h = every ima
 pub every-at : (o : Option Content) (P : List ℕ → Type 0) (image : List ℕ) → IsSome o → EveryImage o P → WasImage o image → P image
 every-at None P image told every was = absurd (false≢true told)
 every-at (Some c) P image told every was = every image was
-
-pub every-told : (o : Option Content) (P : List ℕ → Type 0) (image : List ℕ) → IsSome o → EveryImage o P → IfTold o (λ c. IsImage c image) → P image
-every-told None P image told every was = absurd (false≢true told)
-every-told (Some c) P image told every was = every image was

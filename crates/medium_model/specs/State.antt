@@ -1,8 +1,9 @@
 -- What contracts see of a medium. Its content stands there where it tells it; of a real file nothing is told.
-use Rattle.std.specs.Prelude.{◌≡◌, ℕ, ◌≤◌, Option, Some, None, IsSome}
+use Rattle.std.specs.Prelude.{◌≡◌, ℕ, ◌≤◌, List, Option, Some, None, IsSome}
 use Rattle.avl_values.specs.Causes.{Rose}
 use Rattle.medium_model.specs.CallsLeft.{CallsLeft, unlimited, less, Passes, Fails}
-use Rattle.medium_model.specs.Content.{Content, FailedWrite}
+use Rattle.medium_model.specs.Content.{Content, FailedWrite, settled}
+use Rattle.medium_model.specs.PowerLoss.{WasImage}
 
 pub record MediumState : Type 0 where
   pub content : Option Content
@@ -49,6 +50,12 @@ pub record CountedSome (old new : MediumState) (failed : Type 0) : Type 0 where
 pub record CountedMaybe (old new : MediumState) (failed : Type 0) : Type 0 where
   pub calls : ℕ
   pub counted : Counted calls old new failed
+
+-- The power came back: what is read is an image that the power loss might have left, and all of it is durable.
+pub record IsRestarted (old new : Option Content) : Type 0 where
+  pub image : List ℕ
+  pub was : WasImage old image
+  pub is : new ≡ Some (settled image)
 
 -- A run of calls, with or without a `reserve`: its counts, and what it is where none will fail.
 pub record IsRun (old new : MediumState) (failed : Type 0) : Type 0 where

@@ -1,8 +1,6 @@
-ghost use Rattle.std.specs.Prelude.{◌≡◌, ◌↔◌, ◌≤◌, ℕ, List, Some, IsSome, IsTrue};
+ghost use Rattle.std.specs.Prelude.{◌≡◌, ◌↔◌, ◌≤◌, IsSome, IsTrue};
 ghost use Rattle.medium_model.specs.CallsLeft.{CallsLeft, unknown, unlimited, after, exhausted};
-ghost use Rattle.medium_model.specs.Content.{settled};
-ghost use Rattle.medium_model.specs.PowerLoss.{IsImage};
-ghost use Rattle.medium_model.specs.State.{MediumState, IfTold};
+ghost use Rattle.medium_model.specs.State.{MediumState, IsRestarted};
 
 use crate::Medium;
 
@@ -35,7 +33,7 @@ pub trait Bench: Medium {
 
     /// The power comes back: it reads as one of the images that the power loss might have left, and is unarmed.
     fn restart(&mut self)
-        ensures image { (image : List ℕ) × ((Self.state self.new).content ≡ Some (settled image)) × IfTold (Self.state self.old).content (λ c. IsImage c image) }
+        ensures image { IsRestarted (Self.state self.old).content (Self.state self.new).content }
         ensures unarmed { (Self.state self.new).left ≡ unlimited }
         ensures ready { (Self.state self.old).ready ≤ (Self.state self.new).ready }
         ensures faults { (Self.state self.new).faults ≡ (Self.state self.old).faults };

@@ -8,7 +8,7 @@ use Rattle.flash_ring.specs.Entries.{IsOldest, entries_of, first_slot, with_room
 use Rattle.avl_values.specs.declared.order.Order.TheVariants.{Oldest}
 use Rattle.flash_ring.specs.Ring.{RingView}
 use Rattle.flash_ring.proofs.Closes.{closes-one, holds-map}
-use Rattle.flash_ring.proofs.Laws.{others-same}
+use Rattle.flash_ring.proofs.HeldRecords.{others-same}
 use Rattle.flash_ring.proofs.Rings.{oldest_low, oldest_room}
 use Rattle.flash_ring.proofs.ring.Ring.make_room.Goals as goal
 

@@ -1,11 +1,9 @@
 -- The ring is what the four calls left.
 use Rattle.std.proofs.Common.{◌+◌, ◌*◌, ◌≤◌, ◌∙◌, List, length, set, Option, Some, None, ap, sym, subst, refl, arith, mul-le-mul_left}
 use Rattle.std.proofs.lemmas.Option.{slice_get_within}
-use Rattle.avl_values.specs.Record.{Record}
-use Rattle.record_codecs.specs.SomeRecord.{IsSomeRecord}
 use Rattle.avl_values.specs.Viewed.{record_of}
 use Rattle.medium_model.specs.State.{IfTold}
-use Rattle.flash_ring.specs.Held.{Held, put_in}
+use Rattle.flash_ring.specs.Held.{Held, IsSoundHeld, put_in}
 use Rattle.flash_ring.specs.Images.{IsSettled}
 use Rattle.medium_model.specs.Images.{IsEither}
 use Rattle.flash_ring.specs.Ring.{RingView, EachHolds}
@@ -38,17 +36,17 @@ index_mut-requires g c =
 pub invariant_of-self-2 : goal.invariant_of-self-2
 invariant_of-self-2 g c =
     let up = ap (λ (v : RingView). v.down) c.self.view_is ∙ c.requires.up in
-    let Q : Record → Type 0 = λ r. IsSomeRecord r.codec r.bytes in
-    let h : Held = record { seq = c.self.inside.next; rec = record_of c.copy.result } in
-    let P : List (Option Held) → Type 0 = λ s. IfTold (g.M.Medium.state c.store.new.medium).content (IsSettled (length s) (set s c.in-Some.slot (Some h))) in
-    ring-stored _ _ c.in-Some.slot _ c.self.invariant up refl c.if-self.false (omega arith, subst Q (sym c.copy.ensures) c.requires.is_record) c.store.ensures.counted.ready
+    let value = c.new-held.ensures.value in
+    let sound = subst IsSoundHeld (sym value) (record { seq = omega (arith, c.self.invariant.next); whole = c.requires.is_record; few = c.new-held.ensures.few }) in
+    let P : List (Option Held) → Type 0 = λ s. IfTold (g.M.Medium.state c.store.new.medium).content (IsSettled (length s) (set s c.in-Some.slot (Some c.new-held.result))) in
+    ring-stored _ _ c.in-Some.slot _ c.self.invariant up (ap (λ (h : Held). h.seq) value) c.if-self.false sound c.store.ensures.counted.ready
     (subst P c.deref-2.ensures.value (passed c.store.result c.is_err.result c.is_err.ensures.value c.if-is_err.false c.store.ensures.settled))
 
 pub returns-clause-durable : goal.returns-clause-durable
 returns-clause-durable g c =
     let up = ap (λ (v : RingView). v.down) c.self.view_is ∙ c.requires.up in
-    let Q : Record → Type 0 = λ r. IsSomeRecord r.codec r.bytes in
-    let h : Held = record { seq = c.self.inside.next; rec = record_of c.copy.result } in
-    let P : List (Option Held) → Type 0 = λ s. IfTold (g.M.Medium.state c.store.new.medium).content (IsSettled (length s) (set s c.in-Some.slot (Some h))) in
-    durable_up _ ((ring-stored _ _ c.in-Some.slot _ c.self.invariant up refl c.if-self.false (omega arith, subst Q (sym c.copy.ensures) c.requires.is_record) c.store.ensures.counted.ready
+    let value = c.new-held.ensures.value in
+    let sound = subst IsSoundHeld (sym value) (record { seq = omega (arith, c.self.invariant.next); whole = c.requires.is_record; few = c.new-held.ensures.few }) in
+    let P : List (Option Held) → Type 0 = λ s. IfTold (g.M.Medium.state c.store.new.medium).content (IsSettled (length s) (set s c.in-Some.slot (Some c.new-held.result))) in
+    durable_up _ ((ring-stored _ _ c.in-Some.slot _ c.self.invariant up (ap (λ (h : Held). h.seq) value) c.if-self.false sound c.store.ensures.counted.ready
     (subst P c.deref-2.ensures.value (passed c.store.result c.is_err.result c.is_err.ensures.value c.if-is_err.false c.store.ensures.settled))).up up) up

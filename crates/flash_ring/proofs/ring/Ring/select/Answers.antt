@@ -3,7 +3,7 @@ use Rattle.std.proofs.Common.{◌∙◌, ℕ, List, ap, sym, subst}
 use Rattle.flash_ring.specs.Entries.{selected}
 use Rattle.flash_ring.specs.Images.{AreOpen, AreDistinct}
 use Rattle.flash_ring.specs.Ring.{RingView}
-use Rattle.flash_ring.proofs.Laws.{selected-open, selected-distinct}
+use Rattle.flash_ring.proofs.HeldRecords.{selected-open, selected-distinct}
 use Rattle.flash_ring.proofs.ring.Ring.select.Goals as goal
 
 pub returns-clause-opens : goal.returns-clause-opens
