@@ -4,3 +4,8 @@ pub mod KeepSteps
 pub mod Selecting
 pub mod Silence
 pub mod Responding
+pub mod TurnSteps
+pub mod Advancing
+pub mod Going
+pub mod Stopping
+pub mod Listening

@@ -6,3 +6,6 @@ pub mod Batches
 pub mod Packs
 pub mod Responses
 pub mod Hearing
+pub mod Turns
+pub mod RoundStates
+pub mod Rounds

@@ -15,7 +15,7 @@ ghost use Rattle.flash_ring.specs.Slot.{IsFlash, slots_of};
 ghost use Rattle.tracker_session.specs.Batches.{frame_in, next_slots};
 ghost use Rattle.tracker_session.specs.Hearing.{Hears, HearsAnswer, HearsCount, HearsSome};
 ghost use Rattle.tracker_session.specs.Keeping.{LeavesLosses, LeavesRing, kept_as};
-ghost use Rattle.tracker_session.specs.Trackers.{dialed, silent};
+ghost use Rattle.tracker_session.specs.Trackers.{IsTracker, dialed, silent};
 
 use crate::answering::answer;
 use crate::heard::{Got, Heard, Hearing};
@@ -218,8 +218,16 @@ impl<M: Medium> Tracker<M> {
         }
     }
 
+    // What is true of it.
+    pub(crate) fn look(&self)
+        ensures known { IsTracker self.now }
+        ensures durable { self.now.talking ≡ true → IsDurable self.now.ring }
+    {
+        let _durable = self.ring.is_down();
+    }
+
     // `hear`, where a command may be one that isn't to be obeyed.
-    fn hear_some<S: Shell>(
+    pub(crate) fn hear_some<S: Shell>(
         &mut self,
         piece: &[u8],
         shell: &mut S,
