@@ -1,14 +1,14 @@
 -- A round, one item after the other.
-use Rattle.std.proofs.Common.{◌≡◌, ◌⊎◌, inl, inr, ℕ, zero, suc, ◌+◌, ◌-◌, ◌<◌, ◌≤◌, Bool, true, false, List, [], ◌∷◌, ◌++◌, length, take, Option, Some, None, Ok, Err, refl, sym, ap, subst, ◌∙◌, append_assoc, append-nil, arith, length-append, map}
+use Rattle.std.proofs.Common.{◌≡◌, ℕ, true, false, List, [], ◌∷◌, ◌++◌, length, refl, sym, ap, subst, ◌∙◌, append_assoc, append-nil}
 use Rattle.std.proofs.lemmas.List.{map-append}
 use Rattle.layout.specs.Rows.{Verdict, whole, short, judge}
-use Rattle.item_streams.specs.Streams.{Item, IsNotWhole, next_rows, values}
-use Rattle.item_streams.proofs.StreamSteps.{later_place, rest_completes, rest_grows, same_place}
+use Rattle.item_streams.specs.Streams.{Item, IsNotWhole, values}
+use Rattle.item_streams.proofs.StreamSteps.{later_place, rest_completes, rest_grows}
 use Rattle.item_streams.specs.Laws.{AreStreamRows}
 use Rattle.item_streams.proofs.StreamLaws.{nothing_read}
 use Rattle.frame_layout.specs.DownRows.{down_rows, down_verdict}
 use Rattle.frame_layout.specs.Readings.{down_reading}
-use Rattle.frame_layout.specs.Values.{DownValue, answer, count, order}
+use Rattle.frame_layout.specs.Values.{DownValue}
 use Rattle.frame_layout.proofs.Lengths.{starts_short_down}
 use Rattle.tracker_session.specs.Responses.{ShellMeaning}
 use Rattle.tracker_session.specs.RoundStates.{AllFit, Fits, Round, RoundState, after, next, starts, text, writes}

@@ -1,34 +1,28 @@
 -- A round that goes on, as the code keeps it, and how each turn takes it further or ends it.
-use Rattle.std.proofs.Common.{◌≡◌, ◌⊎◌, inl, inr, ℕ, zero, suc, ◌+◌, ◌-◌, ◌<◌, ◌≤◌, ◌==◌, nat_lt, Bool, true, false, List, [], ◌∷◌, ◌++◌, length, take, Option, Some, None, Ok, Err, Result, refl, sym, ap, subst, ◌∙◌, append_assoc, append-nil, arith, length-append, if◌then◌else◌}
-use Rattle.std.proofs.lemmas.Bool.{ltb-true, false≢true}
-use Rattle.avl_values.specs.declared.errors.MediumFault.{MediumFault}
+use Rattle.std.proofs.Common.{◌≡◌, ℕ, ◌+◌, ◌-◌, ◌<◌, nat_lt, Bool, true, List, [], ◌∷◌, ◌++◌, length, take, Option, None, refl, sym, ap, subst, ◌∙◌, append-nil, arith, length-append}
+use Rattle.std.proofs.lemmas.Bool.{ltb-true}
 use Rattle.avl_values.specs.declared.order.Order.{Order}
-use Rattle.layout.specs.Rows.{Verdict, whole, short, fault}
-use Rattle.links.specs.Links.{Moves, Traffic, WritesPart}
+use Rattle.layout.specs.Rows.{Verdict, whole}
+use Rattle.links.specs.Links.{Moves, Traffic}
 use Rattle.links.proofs.Moving.{moves_as, moves_then}
-use Rattle.medium_model.specs.State.{Counted, MediumState}
+use Rattle.medium_model.specs.State.{MediumState}
 use Rattle.medium_model.proofs.Images.{counted-as, counted-then}
-use Rattle.item_streams.specs.Streams.{values}
 use Rattle.frame_layout.specs.DownRows.{down_verdict}
 use Rattle.frame_layout.specs.Values.{DownValue, answer, count, order}
 use Rattle.flash_ring.specs.Held.{Held, closed_all}
-use Rattle.flash_ring.specs.Images.{MayClose, reached}
-use Rattle.flash_ring.specs.Ring.{IsDurable, RingView}
-use Rattle.flash_ring.specs.Entries.{held_of}
+use Rattle.flash_ring.specs.Ring.{RingView}
 use Rattle.tracker_session.specs.Batches.{frame_in}
-use Rattle.tracker_session.specs.Hearing.{FailsToRelease, HearsSome, Releases}
+use Rattle.tracker_session.specs.Hearing.{HearsSome, Releases}
 use Rattle.tracker_session.specs.Responses.{ShellMeaning, answer_frame, shell_after}
-use Rattle.tracker_session.specs.RoundStates.{Fits, Round, RoundState, after, accepts, counts, next, next_batch, one_less, release_calls, sends, slots_now, starts, text, writes}
-use Rattle.tracker_session.specs.Rounds.{Advances, FailsInside, Leaves, Stops, StopsAt, written}
-use Rattle.tracker_session.specs.Trackers.{IsTracker, TrackerView}
-use Rattle.tracker_session.specs.Turns.{Ending, IsQuiet, IsReady, Reacts, SendsAnswer, SendsBatch, Takes, batch_now}
+use Rattle.tracker_session.specs.RoundStates.{Fits, Round, RoundState, accepts, counts, next, next_batch, one_less, sends, slots_now, writes}
+use Rattle.tracker_session.specs.Rounds.{Advances, Leaves, written}
+use Rattle.tracker_session.specs.Trackers.{TrackerView}
+use Rattle.tracker_session.specs.Turns.{IsReady, Reacts, SendsBatch, Takes, batch_now}
 use Rattle.tracker_session.specs.declared.round.Progress.{Progress}
-use Rattle.tracker_session.specs.declared.round_end.RoundEnd.{RoundEnd}
-use Rattle.tracker_session.specs.declared.round_end.RoundEnd.TheVariants as end
 use Rattle.tracker_session.specs.declared.heard.Heard.TheVariants as heard
 use Rattle.tracker_session.specs.declared.heard.Hearing.{Hearing}
 use Rattle.tracker_session.specs.declared.heard.Hearing.TheVariants as hearing
-use Rattle.tracker_session.proofs.Advancing.{advances-as, advances-item, advances-more, reads-item, written-item}
+use Rattle.tracker_session.proofs.Advancing.{advances-as, advances-item, advances-more, written-item}
 
 closed-append : (a b : List ℕ) (slots : List (Option Held)) → closed_all (a ++ b) slots ≡ closed_all b (closed_all a slots)
 closed-append [] b slots = refl
@@ -72,17 +66,19 @@ module _ {S : Type 0} (m : ShellMeaning S) (r : Round S) where
       let some : 0 < length (next_batch m r d) = subst (λ (ks : List ℕ). 0 < length ks) same sent.0 in
       let left_is = sent.2 in
       let left_at = at.left in
-      let P : RingView → Type 0 = λ z. Leaves m r d old z s in
-      (record {
-        accepted = ap (λ (z : TrackerView). z.answered) sent.1 ∙ at.accepted;
-        batch = ap (λ (z : TrackerView). z.batch) sent.1 ∙ same;
-        left = (let less = one-less (next_batch m r d) d.left some in omega arith);
-        orders = sent.3 ∙ at.orders;
-        done = sent.4 ∙ at.done;
-        imei = ap (λ (z : TrackerView). z.imei) sent.1 ∙ at.imei;
-        order = ap (λ (z : TrackerView). z.order) sent.1 ∙ at.order;
-        leaves = (let l = subst P (sym (ap (λ (z : TrackerView). z.ring) sent.1)) at.leaves in record { ring = l.ring; durable = l.durable; counted = l.counted; shell = l.shell });
-      }, moves_as [] _ [] _ x y refl (frame-same d old v p s at) sent.5)
+      let P : RingView → Type 0 = λ z. Leaves m r d old z s in (
+        record {
+          accepted = ap (λ (z : TrackerView). z.answered) sent.1 ∙ at.accepted;
+          batch = ap (λ (z : TrackerView). z.batch) sent.1 ∙ same;
+          left = (let less = one-less (next_batch m r d) d.left some in omega arith);
+          orders = sent.3 ∙ at.orders;
+          done = sent.4 ∙ at.done;
+          imei = ap (λ (z : TrackerView). z.imei) sent.1 ∙ at.imei;
+          order = ap (λ (z : TrackerView). z.order) sent.1 ∙ at.order;
+          leaves = (let l = subst P (sym (ap (λ (z : TrackerView). z.ring) sent.1)) at.leaves in record { ring = l.ring; durable = l.durable; counted = l.counted; shell = l.shell });
+        },
+        moves_as [] _ [] _ x y refl (frame-same d old v p s at) sent.5,
+      )
 
   -- the login was accepted
   pub accepts-on : (d : RoundState S) (old : RingView) (v u : TrackerView) (p : Progress) (s : S) → Stands d old v p s → u ≡ record v { answered = true; have = [] } → Stands (accepts m r d) old u p s
@@ -104,7 +100,7 @@ module _ {S : Type 0} (m : ShellMeaning S) (r : Round S) where
       → Stands (counts m r d) old u (record p { done = p.done + k }) s
   counts-on d old v u p k s at k_is is released =
       let slots : closed_all v.batch v.ring.slots ≡ slots_now m r (counts m r d) =
-          ap (λ (z : List ℕ × List (Option Held)). closed_all z.0 z.1) (λ i. (at.batch i, slots-same d old v p s at i)) ∙ sym (closed-append d.closed d.batch r.slots) in
+      ap (λ (z : List ℕ × List (Option Held)). closed_all z.0 z.1) (λ i. (at.batch i, slots-same d old v p s at i)) ∙ sym (closed-append d.closed d.batch r.slots) in
       let size : length v.batch ≡ length d.batch = ap length at.batch in
       let done_at = at.done in
       let before : MediumState = v.ring.medium in
@@ -200,7 +196,7 @@ module _ {S : Type 0} (m : ShellMeaning S) (r : Round S) where
         let at = sends-on (accepts m r d) old u w p q s y z (accepts-on d old v u p s g.stands f.2) reacts in
         let P : S → Type 0 = λ k. Stands (next m r d (answer 1)) old w q k in
         goes-item bytes taken (take n piece) old v w p q s t x y z g (answer 1) (steps.1 ∙ ap (λ (i : DownValue). whole i (length (v.have ++ take n piece))) f.0) (sym g.stands.accepted ∙ f.1, refl) refl
-          (subst P (sym f.3) at.0) at.1 (ap (λ (k : TrackerView). k.have) reacts.1 ∙ ap (λ (k : TrackerView). k.have) f.2) ready
+        (subst P (sym f.3) at.0) at.1 (ap (λ (k : TrackerView). k.have) reacts.1 ∙ ap (λ (k : TrackerView). k.have) f.2) ready
     goes-by (hearing.Done heard.Refused) hears reacts = absurd reacts
     goes-by (hearing.Done (heard.Released k)) hears reacts =
         let steps = hears.0.steps in
@@ -212,7 +208,7 @@ module _ {S : Type 0} (m : ShellMeaning S) (r : Round S) where
         let accepted : d.accepted ≡ true = sym g.stands.accepted ∙ f.1 in
         let some = f.2 in
         goes-item bytes taken (take n piece) old v w p q s t x y z g (count (length v.batch)) (steps.1 ∙ ap (λ (i : DownValue). whole i (length (v.have ++ take n piece))) f.0) (accepted, (omega arith), size) accepted
-          (subst P (sym f.6) at.0) at.1 (ap (λ (j : TrackerView). j.have) reacts.1 ∙ ap (λ (j : TrackerView). j.have) f.4) ready
+        (subst P (sym f.6) at.0) at.1 (ap (λ (j : TrackerView). j.have) reacts.1 ∙ ap (λ (j : TrackerView). j.have) f.4) ready
     goes-by (hearing.Done heard.Answer) hears reacts =
         let steps = hears.0.steps in
         let f = steps.2 in
@@ -224,7 +220,7 @@ module _ {S : Type 0} (m : ShellMeaning S) (r : Round S) where
         let orders_at = g.stands.orders in
         let said : out ≡ writes m r d (order body) = f.5 ∙ ap (λ (j : ℕ × S). answer_frame m j.0 j.1 body) (λ i. (g.stands.imei i, g.stands.leaves.shell i)) in
         goes-item bytes taken (take n piece) old v w p q s t x y z g (order body) (steps.1 ∙ ap (λ (i : DownValue). whole i (length (v.have ++ take n piece))) f.1) (accepted, omega arith) accepted
-          (orders-on d old v w p q s t body g.stands view reacts.0.0 f.4) (moves_as [] out [] _ y z refl said reacts.0.1) (ap (λ (j : TrackerView). j.have) view) ready
+        (orders-on d old v w p q s t body g.stands view reacts.0.0 f.4) (moves_as [] out [] _ y z refl said reacts.0.1) (ap (λ (j : TrackerView). j.have) view) ready
     goes-by (hearing.Done (heard.Wrong e)) hears reacts = absurd reacts
     goes-by (hearing.Done heard.MediumFault) hears reacts = absurd reacts
     goes-by hearing.Unobeyed hears reacts = absurd reacts

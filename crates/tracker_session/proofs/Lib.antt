@@ -9,3 +9,4 @@ pub mod Advancing
 pub mod Going
 pub mod Stopping
 pub mod Listening
+pub mod Connecting

@@ -1,5 +1,5 @@
 -- A round that listens: its start, a read, and a piece taken bit by bit.
-use Rattle.std.proofs.Common.{◌≡◌, ℕ, ◌+◌, ◌-◌, ◌≤◌, ◌<◌, List, [], ◌++◌, length, take, drop, Option, Some, None, refl, sym, ap, subst, ◌∙◌, append_assoc, append-nil, arith}
+use Rattle.std.proofs.Common.{◌≡◌, ℕ, ◌+◌, ◌-◌, ◌≤◌, List, [], ◌++◌, take, drop, Option, refl, sym, ap, ◌∙◌, append_assoc, append-nil, arith}
 use Rattle.std.proofs.lemmas.List.{take-append-drop, take-take}
 use Rattle.std.proofs.Math.Seq.{take-add}
 use Rattle.links.specs.Links.{Moves, Traffic}
@@ -7,8 +7,8 @@ use Rattle.links.proofs.Moving.{moves_as, moves_none, moves_then}
 use Rattle.medium_model.proofs.Images.{counted-none}
 use Rattle.flash_ring.specs.Ring.{RingView}
 use Rattle.tracker_session.specs.Responses.{ShellMeaning}
-use Rattle.tracker_session.specs.RoundStates.{Round, RoundState, round_of, starts}
-use Rattle.tracker_session.specs.Rounds.{Advances, written}
+use Rattle.tracker_session.specs.RoundStates.{Round, round_of, starts}
+use Rattle.tracker_session.specs.Rounds.{written}
 use Rattle.tracker_session.specs.Trackers.{TrackerView}
 use Rattle.tracker_session.specs.Turns.{Begins, IsReady}
 use Rattle.tracker_session.specs.declared.round.Progress.{Progress}

@@ -1,32 +1,30 @@
 -- How a turn ends a round.
-use Rattle.std.proofs.Common.{◌≡◌, ◌≢◌, ◌⊎◌, inl, inr, ℕ, ◌+◌, ◌-◌, ◌<◌, ◌≤◌, nat_lt, Bool, true, false, List, [], ◌∷◌, ◌++◌, length, take, Option, Some, None, Ok, Err, Result, refl, sym, ap, subst, ◌∙◌, append_assoc, append-nil, arith, length-append}
+use Rattle.std.proofs.Common.{◌≡◌, ◌⊎◌, inl, inr, ℕ, ◌+◌, nat_lt, Bool, true, false, List, [], ◌++◌, length, take, Option, Some, Ok, Err, Result, refl, sym, ap, subst, ◌∙◌, append_assoc, append-nil, arith}
 use Rattle.std.proofs.lemmas.Bool.{ltb-false, ltb-true}
 use Rattle.avl_values.specs.declared.errors.MediumFault.{MediumFault}
 use Rattle.layout.specs.Rows.{Verdict, whole, short, fault, judge}
 use Rattle.links.specs.Links.{Moves, Traffic, WritesPart}
 use Rattle.links.proofs.Moving.{moves_as, moves_none, moves_then}
-use Rattle.medium_model.specs.State.{Counted, MediumState}
 use Rattle.medium_model.proofs.Images.{counted-as, counted-then}
-use Rattle.item_streams.specs.Readers.{ReadsAs}
-use Rattle.item_streams.specs.Streams.{IsNotWhole, Item, values}
+use Rattle.item_streams.specs.Streams.{IsNotWhole, Item}
 use Rattle.item_streams.proofs.StreamSteps.{rest_grows}
 use Rattle.frame_layout.specs.DownRows.{down_rows, down_verdict}
 use Rattle.frame_layout.specs.Readings.{down_reading}
 use Rattle.frame_layout.specs.Values.{DownValue, answer, count, order}
 use Rattle.frame_layout.proofs.DownLaws.{down_stays}
-use Rattle.flash_ring.specs.Held.{Held, closed_all}
-use Rattle.flash_ring.specs.Images.{MayClose, reached, has_slot}
-use Rattle.flash_ring.specs.Ring.{EachHolds, IsDurable, RingView}
+use Rattle.flash_ring.specs.Held.{Held}
+use Rattle.flash_ring.specs.Images.{MayClose, reached}
+use Rattle.flash_ring.specs.Ring.{RingView}
 use Rattle.flash_ring.specs.Entries.{held_of}
 use Rattle.flash_ring.proofs.Closes.{closes-more, has_slot-take, holds-map}
 use Rattle.medium_model.specs.CallsLeft.{CallsLeft, unknown, unlimited, after as some_left, exhausted}
 use Rattle.tracker_session.specs.Batches.{frame_in}
-use Rattle.tracker_session.specs.Hearing.{FailsToRelease, HearsSome, IsWrong, Releases}
-use Rattle.tracker_session.specs.Responses.{ShellMeaning, answer_frame, shell_after}
-use Rattle.tracker_session.specs.RoundStates.{Fits, Round, RoundState, after, accepts, counts, next, next_batch, one_less, release_calls, sends, slots_now, starts, text, writes}
-use Rattle.tracker_session.specs.Rounds.{Advances, Ends, FailsInside, Leaves, Rests, Stops, StopsAt, written}
-use Rattle.tracker_session.specs.Trackers.{IsTracker, TrackerView, silent}
-use Rattle.tracker_session.specs.Turns.{Ending, IsQuiet, IsReady, Reacts, SendsAnswer, SendsBatch, Takes, batch_now}
+use Rattle.tracker_session.specs.Hearing.{HearsSome, IsWrong}
+use Rattle.tracker_session.specs.Responses.{ShellMeaning, answer_frame}
+use Rattle.tracker_session.specs.RoundStates.{Fits, Round, RoundState, accepts, counts, next, next_batch, sends, slots_now, writes}
+use Rattle.tracker_session.specs.Rounds.{Ends, FailsInside, Leaves, Stops, StopsAt, written}
+use Rattle.tracker_session.specs.Trackers.{TrackerView}
+use Rattle.tracker_session.specs.Turns.{IsQuiet, Reacts, SendsAnswer, SendsBatch, Takes, batch_now}
 use Rattle.tracker_session.specs.declared.heard.Got.{Got}
 use Rattle.tracker_session.specs.declared.heard.Got.TheVariants as got
 use Rattle.tracker_session.specs.declared.heard.Heard.TheVariants as heard
@@ -80,9 +78,9 @@ module _ {S : Type 0} (m : ShellMeaning S) (r : Round S) (bytes taken piece back
       let P : RoundState S → Type 0 = λ j. Leaves m r j old w.ring t × (j.batch ≡ []) × (k ≡ length j.closed) × ((j.left ≡ 0) ⊎ (held_of w.ring.slots ≡ [])) in
       let l = leaves-as d u.ring w.ring t t at.leaves ring refl in
       let drained : ((sends m r d).left ≡ 0) ⊎ (held_of w.ring.slots ≡ []) = elim sent.5 as (λ _. ((sends m r d).left ≡ 0) ⊎ (held_of w.ring.slots ≡ [])) [
-            | inl spent ↦ inl (none-less (next_batch m r d) d.left none ∙ sym at.left ∙ spent)
-            | inr empty ↦ inr (ap (λ (j : RingView). held_of j.slots) ring ∙ empty)
-          ] in
+        | inl spent ↦ inl (none-less (next_batch m r d) d.left none ∙ sym at.left ∙ spent)
+        | inr empty ↦ inr (ap (λ (j : RingView). held_of j.slots) ring ∙ empty)
+      ] in
       let f = subst P (sym is_next) (record { ring = l.ring; durable = l.durable; counted = l.counted; shell = l.shell }, none, sent.4 ∙ at.done, drained) in
       stops-at (Ok (end.Done k)) item w.ring t z [] verdict (fits, f.0, f.1, f.2, f.3, refl) (quiet z sent.3)
   batch-stops (Ok end.Empty) item d u w p0 q t z verdict fits is_next says at sent = absurd sent
@@ -107,7 +105,7 @@ module _ {S : Type 0} (m : ShellMeaning S) (r : Round S) (bytes taken piece back
       let f = steps.2 in
       let ring : w.ring ≡ v.ring = ap (λ (j : TrackerView). j.ring) still.view ∙ ap (λ (j : TrackerView). j.ring) f.2 in
       stops-at (Ok end.Refused) (answer 0) w.ring t z [] (steps.1 ∙ ap (λ (i : DownValue). whole i (length (v.have ++ take n piece))) f.0)
-        (refl, sym g.stands.accepted ∙ f.1, leaves-as g.state v.ring w.ring s t g.stands.leaves ring f.3, refl) (quiet z still.told)
+      (refl, sym g.stands.accepted ∙ f.1, leaves-as g.state v.ring w.ring s t g.stands.leaves ring f.3, refl) (quiet z still.told)
 
   -- a command too many
   unobeyed-stops : (u w : TrackerView) (q : Progress) (t : S) (z : Option Traffic) (out : List ℕ) → HearsSome m (nat_lt p.orders 16) v u piece n hearing.Unobeyed s t out → IsQuiet u w p q y z → Ends m r (Ok end.TooManyCommands) taken old w.ring t x z
@@ -117,7 +115,7 @@ module _ {S : Type 0} (m : ShellMeaning S) (r : Round S) (bytes taken piece back
       let many = ltb-false p.orders 16 hears.2 in
       let orders_at = g.stands.orders in
       stops-at (Ok end.TooManyCommands) (order f.body) w.ring t z [] f.verdict
-        ((f.body, refl), sym g.stands.accepted ∙ f.answered, omega arith, leaves-as g.state v.ring w.ring s t g.stands.leaves ring hears.1, refl) (quiet z still.told)
+      ((f.body, refl), sym g.stands.accepted ∙ f.answered, omega arith, leaves-as g.state v.ring w.ring s t g.stands.leaves ring hears.1, refl) (quiet z still.told)
 
   -- the answer to a command went out in part
   answer-stops : (e : Result RoundEnd MediumFault) (u w : TrackerView) (q : Progress) (t : S) (z : Option Traffic) (out : List ℕ) → HearsSome m (nat_lt p.orders 16) v u piece n (hearing.Done heard.Answer) s t out → SendsAnswer (Some e) out p q y z → w ≡ u → Ends m r e taken old w.ring t x z
@@ -137,7 +135,7 @@ module _ {S : Type 0} (m : ShellMeaning S) (r : Round S) (bytes taken piece back
       let part = subst Q said sent.1 in
       let at = orders-on m r d old v w p q s t body g.stands view sent.0 f.4 in
       inr (stops-at (Ok end.Broken) (order body) w.ring t z (take part.0 (writes m r d (order body))) (steps.1 ∙ ap (λ (i : DownValue). whole i (length (v.have ++ take n piece))) f.1)
-        ((sym g.stands.accepted ∙ f.2, omega arith), at.leaves, (part.0, part.1, refl)) part.2)
+      ((sym g.stands.accepted ∙ f.2, omega arith), at.leaves, (part.0, part.1, refl)) part.2)
   answer-stops (Ok (end.WrongAnswer got)) u w q t z out hears sent same = absurd sent
   answer-stops (Ok end.TooManyCommands) u w q t z out hears sent same = absurd sent
   answer-stops (Err failed) u w q t z out hears sent same = absurd sent
@@ -150,14 +148,14 @@ module _ {S : Type 0} (m : ShellMeaning S) (r : Round S) (bytes taken piece back
       let ring : w.ring ≡ v.ring = ap (λ (j : TrackerView). j.ring) still.view ∙ ap (λ (j : TrackerView). j.ring) f.1 in
       let P : Bool × List ℕ → Type 0 = λ j. IsWrong j.0 j.1 (got.Login b) steps.0 in
       stops-at (Ok (end.WrongAnswer (got.Login b))) steps.0 w.ring t z [] steps.1
-        (subst P (λ i. (g.stands.accepted i, g.stands.batch i)) f.0, leaves-as g.state v.ring w.ring s t g.stands.leaves ring f.2, refl) (quiet z still.told)
+      (subst P (λ i. (g.stands.accepted i, g.stands.batch i)) f.0, leaves-as g.state v.ring w.ring s t g.stands.leaves ring f.2, refl) (quiet z still.told)
   wrong-stops (got.Count c) u w q t z out hears still =
       let steps = hears.0.steps in
       let f = steps.2 in
       let ring : w.ring ≡ v.ring = ap (λ (j : TrackerView). j.ring) still.view ∙ ap (λ (j : TrackerView). j.ring) f.1 in
       let P : Bool × List ℕ → Type 0 = λ j. IsWrong j.0 j.1 (got.Count c) steps.0 in
       stops-at (Ok (end.WrongAnswer (got.Count c))) steps.0 w.ring t z [] steps.1
-        (subst P (λ i. (g.stands.accepted i, g.stands.batch i)) f.0, leaves-as g.state v.ring w.ring s t g.stands.leaves ring f.2, refl) (quiet z still.told)
+      (subst P (λ i. (g.stands.accepted i, g.stands.batch i)) f.0, leaves-as g.state v.ring w.ring s t g.stands.leaves ring f.2, refl) (quiet z still.told)
   wrong-stops (got.Frame found) u w q t z out hears still =
       let steps = hears.0.steps in
       let d = g.state in
@@ -204,7 +202,7 @@ module _ {S : Type 0} (m : ShellMeaning S) (r : Round S) (bytes taken piece back
       } in
       let P : RingView → Type 0 = λ j. FailsInside m r d old j t in
       stops-at (Err failed) (count (length v.batch)) w.ring t z [] (steps.1 ∙ ap (λ (i : DownValue). whole i (length (v.have ++ take n piece))) f.0)
-        ((accepted, (omega arith), size), ap count size, subst P (sym ring) inside, refl) (quiet z still.told)
+      ((accepted, (omega arith), size), ap count size, subst P (sym ring) inside, refl) (quiet z still.told)
 
   -- a turn that ends the round
   ends-by : (h : Hearing) (e : Result RoundEnd MediumFault) (u w : TrackerView) (q : Progress) (t : S) (z : Option Traffic) (out : List ℕ) → HearsSome m (nat_lt p.orders 16) v u piece n h s t out → Reacts h (Some e) u w out p q y z → Ends m r e taken old w.ring t x z
@@ -214,7 +212,7 @@ module _ {S : Type 0} (m : ShellMeaning S) (r : Round S) (bytes taken piece back
       let f = steps.2 in
       let P : S → Type 0 = λ k. Ends m r e taken old w.ring k x z in
       subst P (sym f.3) (batch-stops e (answer 1) (accepts m r g.state) u w p q s z (steps.1 ∙ ap (λ (i : DownValue). whole i (length (v.have ++ take n piece))) f.0) (sym g.stands.accepted ∙ f.1, refl) refl refl
-        (accepts-on m r g.state old v u p s g.stands f.2) reacts)
+      (accepts-on m r g.state old v u p s g.stands f.2) reacts)
   ends-by (hearing.Done heard.Refused) (Ok (end.Done k)) u w q t z out hears reacts = absurd reacts
   ends-by (hearing.Done heard.Refused) (Ok end.Empty) u w q t z out hears reacts = absurd reacts
   ends-by (hearing.Done heard.Refused) (Ok end.Refused) u w q t z out hears reacts = refused-stops u w q t z out hears reacts
@@ -229,7 +227,7 @@ module _ {S : Type 0} (m : ShellMeaning S) (r : Round S) (bytes taken piece back
       let some = f.2 in
       let P : S → Type 0 = λ j. Ends m r e taken old w.ring j x z in
       subst P (sym f.6) (batch-stops e (count (length v.batch)) (counts m r g.state) u w (record p { done = p.done + k }) q s z (steps.1 ∙ ap (λ (i : DownValue). whole i (length (v.have ++ take n piece))) f.0)
-        (sym g.stands.accepted ∙ f.1, (omega arith), size) refl refl (counts-on m r g.state old v u p k s g.stands f.3 f.4 f.5) reacts)
+      (sym g.stands.accepted ∙ f.1, (omega arith), size) refl refl (counts-on m r g.state old v u p k s g.stands f.3 f.4 f.5) reacts)
   ends-by (hearing.Done heard.Answer) e u w q t z out hears reacts = answer-stops e u w q t z out hears reacts.0 reacts.1
   ends-by (hearing.Done (heard.Wrong k)) (Ok (end.Done j)) u w q t z out hears reacts = absurd reacts
   ends-by (hearing.Done (heard.Wrong k)) (Ok end.Empty) u w q t z out hears reacts = absurd reacts

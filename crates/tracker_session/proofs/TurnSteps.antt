@@ -1,14 +1,13 @@
 -- A turn of a round: what a reaction needs, and that less is left after it.
-use Rattle.std.proofs.Common.{◌≡◌, ℕ, ◌+◌, ◌-◌, ◌*◌, ◌<◌, ◌≤◌, ◌^◌, nat_lt, Bool, true, false, List, [], ◌∷◌, ◌++◌, length, take, Option, Some, None, IfNone, Ok, Err, refl, sym, ap, subst, ◌∙◌, arith, length-append}
+use Rattle.std.proofs.Common.{◌≡◌, ℕ, ◌+◌, ◌<◌, ◌≤◌, ◌^◌, nat_lt, List, [], ◌++◌, length, take, Option, Some, None, IfNone, refl, ap, ◌∙◌, arith, length-append}
 use Rattle.std.proofs.lemmas.Bool.{ltb-true}
 use Rattle.std.proofs.lemmas.List.{length-take-le}
 use Rattle.links.specs.Links.{Traffic}
 use Rattle.frame_layout.proofs.Lengths.{short_down_few}
 use Rattle.flash_ring.specs.Entries.{held_of}
-use Rattle.flash_ring.specs.Held.{Held, closed_all}
+use Rattle.flash_ring.specs.Held.{Held}
 use Rattle.flash_ring.specs.Ring.{RingView}
 use Rattle.flash_ring.proofs.HeldRecords.{length-held_of_closed}
-use Rattle.tracker_session.specs.declared.heard.Got.TheVariants as got
 use Rattle.tracker_session.specs.declared.heard.Heard.{Heard}
 use Rattle.tracker_session.specs.declared.heard.Heard.TheVariants as heard
 use Rattle.tracker_session.specs.declared.heard.Hearing.TheVariants as hearing

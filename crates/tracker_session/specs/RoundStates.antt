@@ -1,7 +1,7 @@
 -- What a device says to the items of a stream down (this project's own; items, frames and counts are those of Teltonika, Data Sending
 -- Protocols). It has one batch outstanding at a time, sends the next one after the login was accepted and after each count, and
 -- answers each command.
-use Rattle.std.specs.Prelude.{◌≡◌, ℕ, ◌+◌, ◌-◌, ◌<◌, Bool, true, false, List, [], ◌∷◌, ◌++◌, length, Option, if◌then◌else◌}
+use Rattle.std.specs.Prelude.{◌≡◌, ℕ, ◌+◌, ◌-◌, ◌<◌, Bool, true, false, List, [], ◌∷◌, ◌++◌, length, Option}
 use Rattle.avl_values.specs.declared.order.Order.{Order}
 use Rattle.frame_layout.specs.Values.{DownValue, answer, count, order}
 use Rattle.flash_ring.specs.Held.{Held, closed_all}
@@ -94,6 +94,10 @@ module _ {S : Type 0} (m : ShellMeaning S) (r : Round S) where
 -- the medium calls for the batches that were counted: one for each slot, and one for each batch
 abbrev pub release_calls : {S : Type 0} → RoundState S → ℕ
 release_calls d = d.frames + length d.closed
+
+-- the round of a tracker that may send so many batches
+abbrev pub round_by : {S : Type 0} → TrackerView → ℕ → S → Round S
+round_by v most s = record { imei = v.imei; sends = v.order; slots = v.ring.slots; most = most; shell = s }
 
 -- the round that a tracker begins
 abbrev pub round_of : {S : Type 0} → TrackerView → Progress → S → Round S

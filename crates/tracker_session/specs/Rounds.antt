@@ -1,11 +1,11 @@
 -- How a round goes, and how it ends.
-use Rattle.std.specs.Prelude.{◌≡◌, ◌≢◌, ◌⊎◌, ℕ, ◌+◌, ◌<◌, ◌≤◌, Bool, true, false, List, [], ◌∷◌, ◌++◌, length, take, Option, Some, None, Result, Ok, Err}
+use Rattle.std.specs.Prelude.{◌≡◌, ◌⊎◌, ℕ, ◌+◌, ◌<◌, ◌≤◌, true, false, List, [], ◌∷◌, ◌++◌, length, take, Option, Result, Ok, Err}
 use Rattle.avl_values.specs.declared.errors.MediumFault.{MediumFault}
 use Rattle.layout.specs.Rows.{Verdict, short, fault}
 use Rattle.item_streams.specs.Readers.{ReadsAs}
 use Rattle.item_streams.specs.Streams.{Item, next_rows, values}
 use Rattle.links.specs.Links.{Moves, Traffic, WritesPart}
-use Rattle.medium_model.specs.State.{Counted, MediumState}
+use Rattle.medium_model.specs.State.{Counted}
 use Rattle.frame_layout.specs.DownRows.{down_rows}
 use Rattle.frame_layout.specs.Items.{login_of}
 use Rattle.frame_layout.specs.Readings.{down_reading}
@@ -16,7 +16,6 @@ use Rattle.flash_ring.specs.Ring.{EachHolds, IsDurable, RingView}
 use Rattle.tracker_session.specs.Hearing.{IsWrong}
 use Rattle.tracker_session.specs.Responses.{ShellMeaning}
 use Rattle.tracker_session.specs.RoundStates.{AllFit, Fits, Round, RoundState, after, next, release_calls, slots_now, starts, text, writes}
-use Rattle.tracker_session.specs.declared.heard.Got.{Got}
 use Rattle.tracker_session.specs.declared.heard.Got.TheVariants as got
 use Rattle.tracker_session.specs.declared.round_end.RoundEnd.{RoundEnd}
 use Rattle.tracker_session.specs.declared.round_end.RoundEnd.TheVariants as end

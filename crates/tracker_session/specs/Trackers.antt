@@ -17,6 +17,11 @@ pub record TrackerView : Type 0 where
   pub batch : List ℕ
   pub have : List ℕ
 
+-- the device and its order of sending are the same
+pub record IsSameDevice (v w : TrackerView) : Type 0 where
+  pub imei : w.imei ≡ v.imei
+  pub order : w.order ≡ v.order
+
 -- no talk goes on
 abbrev pub silent : TrackerView → TrackerView
 silent v = record v { talking = false; answered = false; batch = []; have = [] }

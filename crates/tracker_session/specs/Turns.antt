@@ -1,5 +1,5 @@
 -- What a round does with what the tracker heard, one item at a time.
-use Rattle.std.specs.Prelude.{◌≡◌, ◌≢◌, ◌⊎◌, ℕ, ◌+◌, ◌-◌, ◌*◌, ◌<◌, ◌≤◌, ◌^◌, ◌==◌, nat_lt, Bool, true, false, List, [], ◌∷◌, ◌++◌, length, take, Option, Some, None, IfSome, Result, Ok, Err, if◌then◌else◌}
+use Rattle.std.specs.Prelude.{◌≡◌, ◌⊎◌, ℕ, ◌+◌, ◌-◌, ◌*◌, ◌<◌, ◌≤◌, ◌^◌, ◌==◌, nat_lt, true, false, List, [], length, Option, Some, None, IfSome, Result, Ok, Err, if◌then◌else◌}
 use Rattle.avl_values.specs.Causes.{Rose}
 use Rattle.links.specs.Links.{LinkState, Moves, Traffic, WritesPart}
 use Rattle.flash_ring.specs.Entries.{held_of}
@@ -11,7 +11,6 @@ use Rattle.tracker_session.specs.Batches.{frame_in, next_slots}
 use Rattle.tracker_session.specs.Hearing.{HearsSome}
 use Rattle.tracker_session.specs.Responses.{ShellMeaning}
 use Rattle.tracker_session.specs.Trackers.{IsTracker, TrackerView}
-use Rattle.tracker_session.specs.declared.heard.Got.{Got}
 use Rattle.tracker_session.specs.declared.heard.Heard.{Heard}
 use Rattle.tracker_session.specs.declared.heard.Heard.TheVariants as heard
 use Rattle.tracker_session.specs.declared.heard.Hearing.{Hearing}

@@ -2,8 +2,9 @@
 ghost use Rattle.std.specs.Prelude.{◌≡◌, ◌⊎◌, ◌+◌, ◌<◌, ◌≤◌, ◌^◌, ◌++◌, [], true, false, length, take, IfNone, Some, IsSome, ℕ, List, Ok};
 ghost use Rattle.flash_ring.specs.Entries.{held_of};
 ghost use Rattle.flash_ring.specs.Ring.{IsDurable};
-ghost use Rattle.tracker_session.specs.RoundStates.{round_of};
-ghost use Rattle.tracker_session.specs.Rounds.{Ends};
+ghost use Rattle.tracker_session.specs.RoundStates.{round_by, round_of};
+ghost use Rattle.tracker_session.specs.Rounds.{Ends, IsRound};
+ghost use Rattle.tracker_session.specs.Trackers.{IsSameDevice, silent};
 ghost use Rattle.tracker_session.specs.Turns.{Begins, BreaksWith, CanReact, IsBroken, IsReady, Lessens, Reacts, SendsAnswer, SendsBatch, Takes, records_left};
 ghost use Rattle.tracker_session.specs.declared.heard.Hearing.{Hearing};
 ghost use Rattle.tracker_session.specs.declared.heard.Hearing.TheVariants.{Done};
@@ -39,6 +40,7 @@ fn send_batch<M: Medium, L: Link>(
     requires none { tracker.old.batch ≡ [] }
     ensures sends { SendsBatch result tracker.old tracker.new progress.old progress.new (L.state link.old).told (L.state link.new).told }
     ensures broken { IsBroken result (L.state link.old) (L.state link.new) }
+    ensures same { IsSameDevice tracker.old tracker.new }
     ensures follows { L.follows link.old link.new }
 {
     if progress.left == 0 {
@@ -84,6 +86,7 @@ fn react<M: Medium, L: Link>(
     requires { CanReact heard tracker.old progress.old }
     ensures reacts { Reacts (Done heard) result tracker.old tracker.new out.now progress.old progress.new (L.state link.old).told (L.state link.new).told }
     ensures broken { IsBroken result (L.state link.old) (L.state link.new) }
+    ensures same { IsSameDevice tracker.old tracker.new }
     ensures follows { L.follows link.old link.new }
 {
     match heard {
@@ -117,6 +120,7 @@ fn take_one<M: Medium, L: Link, S: Shell>(
     ensures ready { IfNone result.1 (IsReady tracker.new) }
     ensures less { IfNone result.1 (Lessens tracker.old tracker.new progress.old progress.new) }
     ensures broken { IsBroken result.1 (L.state link.old) (L.state link.new) }
+    ensures same { IsSameDevice tracker.old tracker.new }
     ensures follows { L.follows link.old link.new }
 {
     let mut out = ArrayVec::<u8, 1280>::new();
@@ -144,6 +148,7 @@ fn listen<M: Medium, L: Link, S: Shell>(
     requires records { records_left tracker.old progress.old < 2 ^ 32 }
     ensures ends { (taken : List ℕ) × Ends (record { says = S.says; obeyed = S.obeyed }) (round_of tracker.old progress.old shell.old) result taken tracker.old.ring tracker.new.ring shell.new (L.state link.old).told (L.state link.new).told }
     ensures broken { BreaksWith result (L.state link.old) (L.state link.new) }
+    ensures same { IsSameDevice tracker.old tracker.new }
     ensures follows { L.follows link.old link.new }
 {
     let mut buffer = [0; 1024];
@@ -165,4 +170,41 @@ fn listen<M: Medium, L: Link, S: Shell>(
             }
         }
     }
+}
+
+/// One connection.
+pub fn connect<M: Medium, L: Link, S: Shell>(
+    tracker: &mut Tracker<M>,
+    link: &mut L,
+    shell: &mut S,
+    most: u32,
+) -> Result<RoundEnd, MediumFault>
+    requires up { tracker.old.ring.down ≡ false }
+    requires some { 0 < most }
+    ensures silent { tracker.new ≡ silent (record tracker.old { ring = tracker.new.ring }) }
+    ensures round { IsRound (record { says = S.says; obeyed = S.obeyed }) (round_by tracker.old most shell.old) tracker.old.ring tracker.new.ring shell.new (L.state link.old).told (L.state link.new).told result }
+    ensures broken { BreaksWith result (L.state link.old) (L.state link.new) }
+    ensures follows { L.follows link.old link.new }
+{
+    tracker.fall_silent();
+    if tracker.ring().held() == 0 {
+        return Ok(RoundEnd::Empty);
+    }
+    let login = tracker.dial_in();
+    match send(link, &login) {
+        Ok(()) => {}
+        Err(_) => {
+            tracker.fall_silent();
+            return Ok(RoundEnd::Broken);
+        }
+    }
+    tracker.look();
+    let mut progress = Progress {
+        left: most,
+        orders: 0,
+        done: 0,
+    };
+    let ended = listen(tracker, link, shell, &mut progress);
+    tracker.fall_silent();
+    ended
 }

@@ -15,19 +15,24 @@ ghost use Rattle.flash_ring.specs.Slot.{IsFlash, slots_of};
 ghost use Rattle.tracker_session.specs.Batches.{frame_in, next_slots};
 ghost use Rattle.tracker_session.specs.Hearing.{Hears, HearsAnswer, HearsCount, HearsSome};
 ghost use Rattle.tracker_session.specs.Keeping.{LeavesLosses, LeavesRing, kept_as};
-ghost use Rattle.tracker_session.specs.Trackers.{IsTracker, dialed, silent};
+ghost use Rattle.tracker_session.specs.RoundStates.{round_by};
+ghost use Rattle.tracker_session.specs.Rounds.{IsRound};
+ghost use Rattle.tracker_session.specs.Turns.{BreaksWith};
+ghost use Rattle.tracker_session.specs.Trackers.{IsSameDevice, IsTracker, dialed, silent};
 
 use crate::answering::answer;
 use crate::heard::{Got, Heard, Hearing};
 use crate::kept::{KeepFault, Kept};
 use crate::losses::Losses;
 use crate::packing::write_batch;
+use crate::round::connect;
+use crate::round_end::RoundEnd;
 use crate::shell::Shell;
 use crate::storing::store;
 use arrayvec::ArrayVec;
 use avl_values::{Imei, MediumFault, Order, Rec};
 use flash_ring::{ReopenFault, Ring};
-use frame_channel::{Down, DownItem, write_login};
+use frame_channel::{Down, DownItem, Link, write_login};
 use medium_model::{Bench, Medium, Tear};
 use std::marker::Model;
 
@@ -52,6 +57,8 @@ pub struct Tracker<M: Medium> {
 
 impl<M: Medium> Model for Tracker<M> {
     ghost use Rattle.std.specs.Prelude.{◌≡◌, true, false};
+    ghost use Rattle.tracker_session.specs.RoundStates.{round_by};
+    ghost use Rattle.tracker_session.specs.Rounds.{IsRound};
     ghost use Rattle.tracker_session.specs.Trackers.{IsTracker, TrackerView};
 
     ghost Value = { TrackerView };
@@ -108,7 +115,7 @@ impl<M: Medium> Tracker<M> {
     }
 
     // No talk goes on, and nothing is outstanding.
-    fn fall_silent(&mut self)
+    pub(crate) fn fall_silent(&mut self)
         ensures { self.new ≡ silent self.old }
     {
         self.talking = false;
@@ -235,7 +242,8 @@ impl<M: Medium> Tracker<M> {
         obeys: bool,
     ) -> (usize, Hearing)
         requires { self.old.talking ≡ true }
-        ensures { HearsSome (record { says = S.says; obeyed = S.obeyed }) obeys self.old self.new piece.now result.0 result.1 shell.old shell.new out.new.items }
+        ensures hears { HearsSome (record { says = S.says; obeyed = S.obeyed }) obeys self.old self.new piece.now result.0 result.1 shell.old shell.new out.new.items }
+        ensures same { IsSameDevice self.old self.new }
     {
         out.clear();
         let (n, item) = self.reader.push(piece);
@@ -261,7 +269,8 @@ impl<M: Medium> Tracker<M> {
 
     // The login's answer was heard.
     fn hear_answer(&mut self, byte: u8) -> Heard
-        ensures { HearsAnswer result byte self.old self.new }
+        ensures hears { HearsAnswer result byte self.old self.new }
+        ensures same { IsSameDevice self.old self.new }
     {
         match byte {
             0 => {
@@ -279,7 +288,8 @@ impl<M: Medium> Tracker<M> {
     // A count was heard.
     fn hear_count(&mut self, count: u32) -> Heard
         requires talking { self.old.talking ≡ true }
-        ensures { HearsCount result count self.old self.new }
+        ensures hears { HearsCount result count self.old self.new }
+        ensures same { IsSameDevice self.old self.new }
     {
         if self.batch.is_empty() || count != self.batch.len() as u32 {
             self.fall_silent();
@@ -296,6 +306,25 @@ impl<M: Medium> Tracker<M> {
                 Heard::MediumFault
             }
         }
+    }
+
+    /// One connection with at most `most` batches: it logs in, sends batches one after the other, each after the count of the one
+    /// before, and answers commands. What follows from an item is done before the next one is looked at. Whatever it answers, no talk
+    /// goes on.
+    pub fn round<L: Link, S: Shell>(
+        &mut self,
+        link: &mut L,
+        shell: &mut S,
+        most: u32,
+    ) -> Result<RoundEnd, MediumFault>
+        requires up { self.old.ring.down ≡ false }
+        requires some { 0 < most }
+        ensures silent { self.new ≡ silent (record self.old { ring = self.new.ring }) }
+        ensures round { IsRound (record { says = S.says; obeyed = S.obeyed }) (round_by self.old most shell.old) self.old.ring self.new.ring shell.new (L.state link.old).told (L.state link.new).told result }
+        ensures broken { BreaksWith result (L.state link.old) (L.state link.new) }
+        ensures follows { L.follows link.old link.new }
+    {
+        connect(self, link, shell, most)
     }
 
     /// Arms the ring's bench.

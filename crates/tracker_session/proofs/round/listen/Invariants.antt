@@ -1,6 +1,7 @@
-use Rattle.std.proofs.Common.{ℕ, ◌+◌, ◌++◌, ◌-◌, ◌<◌, ◌≡◌, ◌≤◌, ◌^◌, List, length, take}
+use Rattle.std.proofs.Common.{ℕ, ◌++◌, ◌-◌, ◌<◌, ◌≡◌, ◌≤◌, ◌^◌, List, length, take}
 use Rattle.tracker_session.specs.Responses.{ShellMeaning}
 use Rattle.tracker_session.specs.RoundStates.{round_of}
+use Rattle.tracker_session.specs.Trackers.{IsSameDevice}
 use Rattle.tracker_session.specs.Turns.{budget, records_left}
 use Rattle.tracker_session.proofs.Going.{Goes}
 use Rattle.tracker_session.proofs.round.listen.Given as goal
@@ -13,7 +14,7 @@ invariant-items g l =
     × (l.at ≤ l.count) × (l.count ≤ length l.buffer) × (length l.buffer ≡ 1024)
     × (budget l.tracker l.progress ≤ budget l.initial.tracker l.initial.progress) × (0 < l.at → budget l.tracker l.progress < budget l.initial.tracker l.initial.progress)
     × (l.progress.orders ≤ 16) × (records_left l.tracker l.progress < 2 ^ 32)
-    × ((g.L.Link.state l.fn.link).faults ≤ (g.L.Link.state l.link).faults) × g.L.Link.follows l.fn.link l.link
+    × ((g.L.Link.state l.fn.link).faults ≤ (g.L.Link.state l.link).faults) × g.L.Link.follows l.fn.link l.link × IsSameDevice l.fn.tracker l.tracker
 
 abbrev pub decreases-items : goal.decreases-items
 decreases-items g l = l.count - l.at
@@ -24,7 +25,7 @@ invariant-reads g l =
     (taken : List ℕ)
     × Goes m (round_of l.fn.tracker l.fn.progress l.fn.shell) taken taken l.fn.tracker.ring l.tracker l.progress l.shell (g.L.Link.state l.fn.link).told (g.L.Link.state l.link).told
     × (length l.buffer ≡ 1024) × (l.progress.orders ≤ 16) × (records_left l.tracker l.progress < 2 ^ 32)
-    × ((g.L.Link.state l.fn.link).faults ≤ (g.L.Link.state l.link).faults) × g.L.Link.follows l.fn.link l.link
+    × ((g.L.Link.state l.fn.link).faults ≤ (g.L.Link.state l.link).faults) × g.L.Link.follows l.fn.link l.link × IsSameDevice l.fn.tracker l.tracker
 
 abbrev pub decreases-reads : goal.decreases-reads
 decreases-reads g l = budget l.tracker l.progress
