@@ -1,0 +1,12 @@
+pub mod BatchSteps
+pub mod HearSteps
+pub mod KeepSteps
+pub mod Selecting
+pub mod Silence
+pub mod Responding
+pub mod TurnSteps
+pub mod Advancing
+pub mod Going
+pub mod Stopping
+pub mod Listening
+pub mod Connecting

@@ -1,0 +1,11 @@
+pub mod Losses
+pub mod Shells
+pub mod Trackers
+pub mod Keeping
+pub mod Batches
+pub mod Packs
+pub mod Responses
+pub mod Hearing
+pub mod Turns
+pub mod RoundStates
+pub mod Rounds
