@@ -298,13 +298,18 @@ fn is_slot(alloc: Global, bytes: &[u8], front: &str) -> bool {
     slot.resize(272, 0).is_ok() && bytes == slot.as_slice()
 }
 
+// Whether two slots begin with these bytes.
+fn are_slots(alloc: Global, bytes: &[u8], first: &str, second: &str) -> bool {
+    match bytes.split_at_checked(272) {
+        Some((front, back)) => is_slot(alloc, front, first) && is_slot(alloc, back, second),
+        None => false,
+    }
+}
+
 // Whether the slots of a ring of two begin with these bytes.
-fn are_slots(alloc: Global, ring: Ring<MemoryMedium>, first: &str, second: &str) -> bool {
+fn has_slots(alloc: Global, ring: Ring<MemoryMedium>, first: &str, second: &str) -> bool {
     let medium = ring.into_medium();
-    let bytes = medium.content();
-    bytes.len() == 544
-        && is_slot(alloc, &bytes[..272], first)
-        && is_slot(alloc, &bytes[272..], second)
+    are_slots(alloc, medium.content(), first, second)
 }
 
 // Gate, codec, the record's length, the sequence and the record, of which only the time isn't zero.
@@ -316,14 +321,14 @@ fn the_bytes_of_a_slot(rt: HostRuntime) -> Result<(), Fail> {
         "a5081e00000000000000000000016b40d8ea30",
         "a5081e00000000000000010000016b40d8ea30",
     );
-    assert!(rt; are_slots(alloc, ring, first, second));
+    assert!(rt; has_slots(alloc, ring, first, second));
     let mut ring = two_held(alloc, 99).ok_or("a ring")?;
     assert!(rt; releases(&mut ring));
     let (first, second) = (
         "00081e00000000000000000000016b40d8ea30",
         "00081e00000000000000010000016b40d8ea30",
     );
-    assert!(rt; are_slots(alloc, ring, first, second));
+    assert!(rt; has_slots(alloc, ring, first, second));
     Ok(())
 }
 
