@@ -4,6 +4,7 @@ pub mod FieldSpelling
 pub mod LineSpelling
 pub mod ReadingLemmas
 pub mod ScriptLaws
+pub mod SettingLaws
 pub mod StandingLemmas
 pub mod Values
 pub mod WritingLemmas

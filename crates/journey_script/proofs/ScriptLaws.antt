@@ -20,6 +20,7 @@ use Rattle.journey_script.specs.Laws.{AreDistinct, HasLaws, is_device}
 use Rattle.journey_script.specs.Lines.{line_of}
 use Rattle.journey_script.specs.Standing.{open_from}
 use Rattle.journey_script.proofs.ConnectionLemmas.{connections_push, count_push, open_append, open_closed, open_length, open_more, open_restarted}
+use Rattle.journey_script.proofs.SettingLaws.{HasSettings, all_settings, all_values, no_lines, setting_step}
 use Rattle.journey_script.proofs.StandingLemmas.{some_number}
 use Rattle.journey_script.proofs.WrittenLemmas.{is_short}
 
@@ -389,6 +390,7 @@ script_laws script is =
     let sound = all_sound script is in
     let ordered = along IsOrdered ordered_step [] lines (record { enrolled = λ imei. refl; apart = tt; few = lit≤ tt; count = refl; opened = refl; placed = tt }) sound in
     let roomy = along IsRoomy roomy_step [] lines (lit≤ tt) sound in
+    let settings = along HasSettings setting_step [] lines no_lines sound in
     let same = same_imeis lines lines in
     record {
       sound = λ before after line e. sound_at [] before after line (subst (AreSound []) e sound);
@@ -396,5 +398,7 @@ script_laws script is =
       few_devices = omega (arith, length-map (devices_of lines) (λ (d : Device). d.imei), ap (λ (xs : List ℕ). length xs) same, ordered.few);
       placed = λ n h e. device_among h.opening.imei (devices_of lines) ∙ ap (is_among h.opening.imei) same
           ∙ opening_at n (connections_of lines) h (imeis lines) (subst (λ (os : List Opening). AllByRecursion (λ (o : Opening). is_among o.imei (imeis lines) ≡ true) os) (sym ordered.opened) ordered.placed) e;
+      settings = all_settings lines settings;
+      values = λ before after imei fix e. all_values lines before after imei fix settings e;
       few_open = omega (arith, open_length 1 (connections_of lines), roomy);
     }

@@ -63,7 +63,7 @@ kinds_of LineWord.Fuse = WhoseField ∷ NumberField 0 1000000 ∷ TearField ∷ 
 abbrev pub value_kind : FieldKind
 value_kind = below (2 ^ 64)
 
--- whether a line may have so many fields after its word
+-- whether a line may have this number of fields after its word
 abbrev pub is_count_of : LineWord → ℕ → Bool
 is_count_of LineWord.Device n = n == length (kinds_of LineWord.Device)
 is_count_of LineWord.Io n = n == length (kinds_of LineWord.Io)

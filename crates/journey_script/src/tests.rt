@@ -127,7 +127,7 @@ fn refusal(alloc: Global, text: &str) -> Result<String, NoMemory> {
     }
 }
 
-/// The device's line, so many `round` lines that leave a connection half-open, and these lines.
+/// The device's line, `round` lines that leave a connection half-open each, and these lines.
 fn after_rounds(alloc: Global, count: u32, last: &str) -> Result<String, NoMemory> {
     let mut text = format!(in alloc; "{DEVICE}")?;
     for _ in 0..count {
@@ -181,7 +181,7 @@ fn half_open_connections(rt: HostRuntime) -> Result<(), Fail> {
     Ok(())
 }
 
-/// A text of so many devices, each with as many I/O settings.
+/// A text of devices, each with I/O settings.
 fn with_devices(alloc: Global, devices: u64, settings: u32) -> Result<String, NoMemory> {
     let mut text = String::new(alloc);
     for imei in 0..devices {
