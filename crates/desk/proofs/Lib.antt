@@ -11,3 +11,4 @@ pub mod Close
 pub mod Shelves
 pub mod Turns
 pub mod Deal
+pub mod Taking

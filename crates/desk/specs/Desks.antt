@@ -39,3 +39,7 @@ module _ {M : Type 0} {d : Ghosts M} where
   -- each seat at its place has the place for its number
   abbrev pub AreNewSeats : Desk M → List (Seat M d) → Type 0
   AreNewSeats desk seats = (k : ℕ) (seat : Seat M d) → slice_get seats k ≡ Some seat → IsNewSeat desk k seat
+
+  -- each is a seat of this desk
+  abbrev pub AreSeatsOf : Desk M → List (Seat M d) → Type 0
+  AreSeatsOf desk seats = (k : ℕ) (seat : Seat M d) → slice_get seats k ≡ Some seat → IsSeatOf desk seat
