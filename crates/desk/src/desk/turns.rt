@@ -1,8 +1,10 @@
 ghost use Rattle.std.specs.Prelude.{◌≡◌, ◌↔◌, ◌≤◌, ◌<◌, ◌^◌, ◌++◌, false, [], length, IfOk, IfErr, vec_capacity};
+ghost use Rattle.record_layout.specs.Body.{IsBody};
 ghost use Rattle.record_layout.specs.RecordsOf.{count_of};
+ghost use Rattle.record_layout.specs.declared.head.PacketHead.{PacketHead};
 ghost use Rattle.shelf.specs.Calls.{brought_by, no_mark};
 ghost use Rattle.shelf.specs.Entries.{IsLegalLog, StandsAfter, calls_by};
-ghost use Rattle.shelf.specs.Shelf.{IsAccepted, front};
+ghost use Rattle.shelf.specs.Shelf.{front};
 ghost use Rattle.desk.specs.Desks.{IsSeatOf, AreNewSeats, opening, seats_of, seen, numbers};
 ghost use Rattle.desk.specs.Refusals.{AllFaultless, CarriesAbove, HasFault, IsDown, before_last};
 ghost use Rattle.desk.specs.Seen.{AreJoined, Extends};
@@ -87,7 +89,7 @@ impl<M: Medium> Desk<M> {
     ) -> Result<Receipt, AdmitFault>
         requires seat { IsSeatOf self.now seat.old }
         requires few { length body.now ≤ 2 ^ 31 }
-        requires accepted { IsAccepted body.now }
+        requires accepted { (head : PacketHead) × IsBody head body.now }
         ensures seat { IsSeatOf self.now seat.new }
         ensures numbers { numbers seat.new ≡ numbers seat.old }
         ensures history { Extends (opening self.now) (numbers seat.old) (brought_by no_mark imei body.now result) (seen seat.old) (seen seat.new) }
