@@ -75,7 +75,7 @@ module _ {S : Type 0} (m : ShellMeaning S) (r : Round S) where
           done = sent.4 ∙ at.done;
           imei = ap (λ (z : TrackerView). z.imei) sent.1 ∙ at.imei;
           order = ap (λ (z : TrackerView). z.order) sent.1 ∙ at.order;
-          leaves = (let l = subst P (sym (ap (λ (z : TrackerView). z.ring) sent.1)) at.leaves in record { ring = l.ring; durable = l.durable; counted = l.counted; shell = l.shell });
+          leaves = (let l = subst P (sym (ap (λ (z : TrackerView). z.ring) sent.1)) at.leaves in record { ring = l.ring; durable = l.durable; counted = l.counted; untouched = l.untouched; shell = l.shell });
         },
         moves_as [] _ [] _ x y refl (frame-same d old v p s at) sent.5,
       )
@@ -92,7 +92,7 @@ module _ {S : Type 0} (m : ShellMeaning S) (r : Round S) where
         done = at.done;
         imei = ap (λ (z : TrackerView). z.imei) is ∙ at.imei;
         order = ap (λ (z : TrackerView). z.order) is ∙ at.order;
-        leaves = (let l = subst P (sym (ap (λ (z : TrackerView). z.ring) is)) at.leaves in record { ring = l.ring; durable = l.durable; counted = l.counted; shell = l.shell });
+        leaves = (let l = subst P (sym (ap (λ (z : TrackerView). z.ring) is)) at.leaves in record { ring = l.ring; durable = l.durable; counted = l.counted; untouched = l.untouched; shell = l.shell });
       }
 
   -- the batch was counted
@@ -117,6 +117,7 @@ module _ {S : Type 0} (m : ShellMeaning S) (r : Round S) where
               (λ i. (slots i, ap (λ (w : RingView). w.next) at.leaves.ring i, ap (λ (w : RingView). w.down) at.leaves.ring i));
           durable = released.durable;
           counted = counted-as (let more = length-append d.closed d.batch in omega arith) (λ f. f) (λ f. f) (counted-then at.leaves.counted released.counted);
+          untouched = λ none. absurd (omega arith);
           shell = at.leaves.shell;
         };
       }
@@ -139,6 +140,7 @@ module _ {S : Type 0} (m : ShellMeaning S) (r : Round S) where
           ring = l.ring;
           durable = l.durable;
           counted = l.counted;
+          untouched = l.untouched;
           shell = shell ∙ ap (λ (z : ℕ × S). shell_after m z.0 z.1 body) (λ i. (at.imei i, at.leaves.shell i));
         };
       }

@@ -10,3 +10,4 @@ pub mod Going
 pub mod Stopping
 pub mod Listening
 pub mod Connecting
+pub mod Releasing

@@ -44,7 +44,7 @@ module _ {S : Type 0} (m : ShellMeaning S) where
       done = begins.done;
       imei = refl;
       order = refl;
-      leaves = record { ring = refl; durable = ready.durable; counted = counted-none v.ring.medium; shell = refl };
+      leaves = record { ring = refl; durable = ready.durable; counted = counted-none v.ring.medium; untouched = λ _. refl; shell = refl };
     };
     wire = moves_none x;
     ready = ready;

@@ -81,7 +81,7 @@ module _ {S : Type 0} (m : ShellMeaning S) (r : Round S) (bytes taken piece back
         | inl spent ↦ inl (none-less (next_batch m r d) d.left none ∙ sym at.left ∙ spent)
         | inr empty ↦ inr (ap (λ (j : RingView). held_of j.slots) ring ∙ empty)
       ] in
-      let f = subst P (sym is_next) (record { ring = l.ring; durable = l.durable; counted = l.counted; shell = l.shell }, none, sent.4 ∙ at.done, drained) in
+      let f = subst P (sym is_next) (record { ring = l.ring; durable = l.durable; counted = l.counted; untouched = l.untouched; shell = l.shell }, none, sent.4 ∙ at.done, drained) in
       stops-at (Ok (end.Done k)) item w.ring t z [] verdict (fits, f.0, f.1, f.2, f.3, refl) (quiet z sent.3)
   batch-stops (Ok end.Empty) item d u w p0 q t z verdict fits is_next says at sent = absurd sent
   batch-stops (Ok end.Refused) item d u w p0 q t z verdict fits is_next says at sent = absurd sent
@@ -89,7 +89,7 @@ module _ {S : Type 0} (m : ShellMeaning S) (r : Round S) (bytes taken piece back
       let ring : w.ring ≡ u.ring = ap (λ (j : TrackerView). j.ring) sent.1 in
       let l = leaves-as d u.ring w.ring t t at.leaves ring refl in
       let P : RoundState S → Type 0 = λ j. Leaves m r j old w.ring t in
-      let f = subst P (sym is_next) (record { ring = l.ring; durable = l.durable; counted = l.counted; shell = l.shell }) in
+      let f = subst P (sym is_next) (record { ring = l.ring; durable = l.durable; counted = l.counted; untouched = l.untouched; shell = l.shell }) in
       let same : frame_in u.ring.slots (batch_now p0.left u.order u.ring.slots) ≡ writes m r g.state item = frame-same m r d old u p0 t at ∙ sym says in
       let Q : List ℕ → Type 0 = λ b. WritesPart b y z in
       let part = subst Q same sent.2 in

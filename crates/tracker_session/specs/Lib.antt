@@ -9,3 +9,4 @@ pub mod Hearing
 pub mod Turns
 pub mod RoundStates
 pub mod Rounds
+pub mod RingRounds

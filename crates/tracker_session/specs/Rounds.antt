@@ -35,11 +35,12 @@ module _ {S : Type 0} (m : ShellMeaning S) (r : Round S) where
   written a = text m r (starts r) (values a.items)
 
   -- What a round leaves: just the slots of the counted batches are closed, a power loss leaves them so, and each of their releases
-  -- made its medium calls.
+  -- made its medium calls. Where no batch was counted the ring is as before.
   pub record Leaves (d : RoundState S) (old new : RingView) (t : S) : Type 0 where
     pub ring : new ≡ record old { medium = new.medium; slots = slots_now m r d }
     pub durable : IsDurable new
     pub counted : Counted (release_calls d) old.medium new.medium ⊥
+    pub untouched : d.frames ≡ 0 → new ≡ old
     pub shell : t ≡ d.shell
 
   -- The medium failed as the outstanding batch was released. A power loss leaves any part of it closed.

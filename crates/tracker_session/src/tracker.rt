@@ -1,4 +1,5 @@
-ghost use Rattle.std.specs.Prelude.{◌≡◌, ◌↔◌, ◌<◌, ◌≤◌, ◌^◌, [], true, false, length, OnOk, OnErr, IfErr, IfOk, IsOk, IsErrOf, IsSome};
+ghost use Rattle.std.specs.Prelude.{◌≡◌, ◌↔◌, ℕ, List, ◌<◌, ◌≤◌, ◌^◌, [], true, false, length, OnOk, OnErr, IfErr, IfOk, IsOk, IsErrOf, IsSome};
+ghost use Rattle.avl_values.specs.Record.{Record};
 ghost use Rattle.avl_values.specs.Viewed.{record_of};
 ghost use Rattle.medium_model.specs.CallsLeft.{Fails, after, unlimited};
 ghost use Rattle.medium_model.specs.Content.{after_sync};
@@ -15,6 +16,7 @@ ghost use Rattle.flash_ring.specs.Slot.{IsFlash, slots_of};
 ghost use Rattle.tracker_session.specs.Batches.{frame_in, next_slots};
 ghost use Rattle.tracker_session.specs.Hearing.{Hears, HearsAnswer, HearsCount, HearsSome};
 ghost use Rattle.tracker_session.specs.Keeping.{LeavesLosses, LeavesRing, kept_as};
+ghost use Rattle.tracker_session.specs.RingRounds.{RoundsRing};
 ghost use Rattle.tracker_session.specs.RoundStates.{round_by};
 ghost use Rattle.tracker_session.specs.Rounds.{IsRound};
 ghost use Rattle.tracker_session.specs.Turns.{BreaksWith};
@@ -57,6 +59,7 @@ pub struct Tracker<M: Medium> {
 
 impl<M: Medium> Model for Tracker<M> {
     ghost use Rattle.std.specs.Prelude.{◌≡◌, true, false};
+    ghost use Rattle.tracker_session.specs.RingRounds.{RoundsRing};
     ghost use Rattle.tracker_session.specs.RoundStates.{round_by};
     ghost use Rattle.tracker_session.specs.Rounds.{IsRound};
     ghost use Rattle.tracker_session.specs.Trackers.{IsTracker, TrackerView};
@@ -321,9 +324,11 @@ impl<M: Medium> Tracker<M> {
         requires some { 0 < most }
         ensures silent { self.new ≡ silent (record self.old { ring = self.new.ring }) }
         ensures round { IsRound (record { says = S.says; obeyed = S.obeyed }) (round_by self.old most shell.old) self.old.ring self.new.ring shell.new (L.state link.old).told (L.state link.new).told result }
+        ensures ring { (heard : ℕ) × (released : List Record) × RoundsRing result heard released self.old.ring self.new.ring }
         ensures broken { BreaksWith result (L.state link.old) (L.state link.new) }
         ensures follows { L.follows link.old link.new }
     {
+        let _durable = self.is_down();
         connect(self, link, shell, most)
     }
 
