@@ -11,15 +11,15 @@ mod frame_work;
 mod line_work;
 mod ring_work;
 mod script_work;
+mod tracker_work;
 
 use anyhow::Context;
-use std::alloc::Global;
 use std::env;
 use std::sync::Wait;
 use std::thread::Threads;
 
 /// A little of everything.
-const SAMPLES: [(&str, [u64; 3]); 12] = [
+const SAMPLES: [(&str, [u64; 3]); 13] = [
     ("codecs", [112, 1, 0]),
     ("fields", [112, 1, 0]),
     ("frames", [2, 1460, 0]),
@@ -32,15 +32,17 @@ const SAMPLES: [(&str, [u64; 3]); 12] = [
     ("overwrite", [4, 0, 0]),
     ("medium", [4, 0, 0]),
     ("scripts", [0, 100_000, 1]),
+    ("talks", [100, 0, 0]),
 ];
 
-/// Does what the word says, and gives its two numbers; None for another word, or out of memory.
+/// Does what the word says, and gives its two numbers; None for another word, or where memory or a file failed.
 fn work<R: Threads + Wait + Sync>(
     rt: &R,
-    alloc: Global,
+    host: &HostRuntime,
     what: &str,
     numbers: [u64; 3],
 ) -> Option<(u64, u64)> {
+    let alloc = host.alloc();
     let [first, second, third] = numbers;
     match what {
         "codecs" => codec_work::judge_packets(alloc, first, second, false),
@@ -49,8 +51,10 @@ fn work<R: Threads + Wait + Sync>(
         "lines" => line_work::write_lines(alloc, first, second),
         "acquisition" => acquisition_work::acquire(first),
         "archive" => archive_work::archive(alloc, first, second, third),
+        "filed" => archive_work::archive_file(host, first, second, third),
         "desk" => desk_work::admit(rt, alloc, first, second),
         "scripts" => script_work::read_scripts(alloc, first, second, third),
+        "talks" => tracker_work::send_all(alloc, first),
         "medium" => ring_work::write_medium(alloc, first),
         _ => ring_work::work(alloc, what, first),
     }
@@ -70,14 +74,12 @@ fn main(rt: HostRuntime) -> anyhow::Result<()> {
     }
     match what {
         Some(what) => {
-            let (first, second) = work(&rt, rt.alloc(), what.as_str(), numbers).context(
-                "all of it",
-            )?;
+            let (first, second) = work(&rt, &rt, what.as_str(), numbers).context("all of it")?;
             println!(rt; "{first} {second}")?;
         }
         None => {
             for (what, numbers) in SAMPLES {
-                let (first, second) = work(&rt, rt.alloc(), what, numbers).context("all of it")?;
+                let (first, second) = work(&rt, &rt, what, numbers).context("all of it")?;
                 println!(rt; "{what} {first} {second}")?;
             }
         }
