@@ -9,7 +9,7 @@ use Rattle.avl_values.specs.declared.codec.Codec.TheVariants.{C8, C8E, C16}
 use Rattle.io_operands.specs.declared.setting.IoSetting.{IoSetting}
 use Rattle.record_layout.specs.Spelling.{HasNoOther}
 use Rattle.record_writing.specs.Length.{record_length, ios_length}
-use Rattle.record_writing.specs.Pieces.{id_width}
+use Rattle.record_layout.specs.Table.{id_width}
 use Rattle.record_writing.specs.Refusal.{HasNarrowIds}
 use Rattle.record_writing.proofs.Pieces.{length_summed}
 use Rattle.acquisition.specs.Checked.{IsNarrow, AreNarrow, AreChecked}

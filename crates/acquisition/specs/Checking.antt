@@ -6,7 +6,7 @@ use Rattle.avl_values.specs.declared.codec.Codec.{Codec}
 use Rattle.avl_values.specs.declared.codec.Codec.TheVariants.{C8, C8E, C16}
 use Rattle.io_operands.specs.declared.setting.IoSetting.{IoSetting}
 use Rattle.record_writing.specs.Length.{shortest_length}
-use Rattle.record_writing.specs.Pieces.{id_width}
+use Rattle.record_layout.specs.Table.{id_width}
 use Rattle.acquisition.specs.declared.settings.SettingFault.{SettingFault}
 use Rattle.acquisition.specs.declared.settings.SettingFault.TheVariants.{TooMany, BadWidth, IdTooWide, RecordTooLong}
 

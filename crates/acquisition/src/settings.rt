@@ -9,7 +9,8 @@ use crate::fix::Fix;
 use arrayvec::ArrayVec;
 use avl_values::{Codec, Width};
 use io_operands::IoSetting;
-use record_writing::{id_width, shortest_length};
+use record_layout::id_width;
+use record_writing::shortest_length;
 use std::marker::Model;
 
 /// Why a device can't have some settings.

@@ -8,3 +8,4 @@ pub mod Ends
 pub mod Images
 pub mod Spelled
 pub mod Walks
+pub mod Somes

@@ -8,6 +8,7 @@ use Rattle.avl_values.specs.declared.codec.Codec.{Codec}
 use Rattle.layout.specs.Bytes.{AreBytes}
 use Rattle.layout.specs.Rows.{Verdict, whole, short, fault}
 use Rattle.layout.proofs.Numbers.{are_bytes, bytes-append, bytes-take, bytes-drop}
+use Rattle.record_layout.specs.Body.{IsBody}
 use Rattle.record_layout.specs.Packet.{IsPacket}
 use Rattle.record_layout.specs.PacketRows.{packet_verdict}
 use Rattle.record_layout.specs.RecordsOf.{records_of}
@@ -33,6 +34,10 @@ whole-is packet head n bytes is =
     let P : List ℕ → Type 0 = λ p. IsPacket head.codec w.0 p in
     let packet_is = subst P (take_all (length packet) packet (omega arith)) w.3 in
     record { rs = w.0; is = packet_is; read = records_read head.codec w.0 packet packet_is }
+
+-- what `read_packet` accepts is such a body
+pub accepted-whole : (head : PacketHead) (packet : List ℕ) → IsBody head packet → IsWhole head.codec packet
+accepted-whole head packet b = record { rs = b.records; is = b.packet; read = records_read head.codec b.records packet b.packet }
 
 each-in : (codec : Codec) (rs : List (List ℕ)) → AllByRecursion (IsSomeRecord codec) rs → AllByRecursion (IsIn codec) (in_codec codec rs)
 each-in codec [] all = tt
@@ -60,7 +65,7 @@ whole-long codec packet w =
     omega (arith, ap length w.is.is, length-append joined (length w.rs ∷ []))
 
 -- so a body that has none isn't well formed
-is_whole-true : (v : Verdict PacketHead) → is_whole v ≡ true → (head : PacketHead) × (n : ℕ) × (v ≡ whole head n)
+pub is_whole-true : (v : Verdict PacketHead) → is_whole v ≡ true → (head : PacketHead) × (n : ℕ) × (v ≡ whole head n)
 is_whole-true (whole head n) is = (head, n, refl)
 is_whole-true short is = absurd (let no : false ≡ true = is in cc)
 is_whole-true (fault kind place) is = absurd (let no : false ≡ true = is in cc)

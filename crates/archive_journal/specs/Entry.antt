@@ -15,3 +15,8 @@ pub record IsEntry (codec : Codec) (records : List Record) : Type 0 where
   pub some : 0 < length records
   pub few : length records < 256
   pub each : AllByRecursion (IsIn codec) records
+
+-- the records of an entry
+pub record IsSomeEntry (records : List Record) : Type 0 where
+  pub codec : Codec
+  pub is : IsEntry codec records

@@ -1,5 +1,5 @@
 ghost use Rattle.std.specs.Prelude.{◌≡◌, ◌<◌, ◌++◌, ◌∷◌, [], length, slice_get, Some, IfSome, OnOk, OnErr};
-ghost use Rattle.archive_journal.specs.Entry.{IsEntry};
+ghost use Rattle.archive_journal.specs.Entry.{IsEntry, IsSomeEntry};
 ghost use Rattle.record_codecs.specs.SomeRecord.{IsSomeRecord};
 
 use avl_values::{Codec, Imei, NoMemory, WideRec};
@@ -71,7 +71,8 @@ impl Entry {
 
     /// Its records, in order. It takes no memory.
     pub fn into_records(self) -> Vec<WideRec>
-        ensures { result.items ≡ self.records }
+        ensures value { result.items ≡ self.records }
+        ensures entry { IsSomeEntry self.records }
     {
         let Entry { records, .. } = self;
         records

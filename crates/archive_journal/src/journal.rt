@@ -1,9 +1,9 @@
-ghost use Rattle.std.specs.Prelude.{◌≡◌, ◌⊎◌, ◌↔◌, ◌+◌, ◌<◌, ◌≤◌, ◌^◌, true, false, length, IfOk, IfErr, OnOk, OnErr, IsOk, IsErr, IsErrOf, IsSome, IsTrue, ℕ, List, Some};
+ghost use Rattle.std.specs.Prelude.{◌≡◌, ◌⊎◌, ◌↔◌, ◌+◌, ◌<◌, ◌≤◌, ◌^◌, true, false, length, IfOk, IfErr, OnOk, OnErr, IsOk, IsErr, IsErrOf, IsSome, IsTrue};
 ghost use Rattle.avl_values.specs.Causes.{Rose};
 ghost use Rattle.medium_model.specs.CallsLeft.{MayFail, after, unlimited};
-ghost use Rattle.medium_model.specs.Content.{after_sync, settled};
-ghost use Rattle.medium_model.specs.State.{Counted, IfTold, IsRun, told};
-ghost use Rattle.medium_model.specs.PowerLoss.{EveryImage, IsImage};
+ghost use Rattle.medium_model.specs.Content.{after_sync};
+ghost use Rattle.medium_model.specs.State.{Counted, IfTold, IsRestarted, IsRun, told};
+ghost use Rattle.medium_model.specs.PowerLoss.{EveryImage};
 ghost use Rattle.archive_journal.specs.Body.{entry_in, is_body};
 ghost use Rattle.archive_journal.specs.Entries.{IsArchive, entries_of};
 ghost use Rattle.archive_journal.specs.Journal.{EachHolds, HasRoom, IsDurable, IsEither, KeepsEntries, after_body, entries_told, with_entry};
@@ -212,7 +212,7 @@ impl<M: Medium> Journal<M> {
     where
         M: Bench,
         ensures same { self.new ≡ record self.old { medium = self.new.medium } }
-        ensures image { (image : List ℕ) × (self.new.medium.content ≡ Some (settled image)) × IfTold self.old.medium.content (λ c. IsImage c image) }
+        ensures image { IsRestarted self.old.medium.content self.new.medium.content }
         ensures archive { IfTold self.new.medium.content (λ c. IsArchive c.reads) }
         ensures durable { self.old.down ≡ false → IsDurable self.new }
         ensures entries { self.old.down ≡ false → entries_told self.new.medium.content ≡ entries_told self.old.medium.content }

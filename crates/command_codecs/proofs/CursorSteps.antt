@@ -5,17 +5,17 @@ use Rattle.std.proofs.lemmas.Bool.Decides.{nat_tests}
 use Rattle.layout.specs.Rows.{Rows}
 use Rattle.avl_values.specs.declared.fault.FaultKind.TheVariants.{CommandSize, CommandType, ImeiDigits, UnknownCodec}
 use Rattle.layout.specs.Fields.{number, fault_unless}
-use Rattle.layout.specs.Next.{width_of}
 use Rattle.command_layout.specs.declared.way.Way.{Way}
 use Rattle.command_layout.specs.CommandRows.{command_rows, digits_rule, imei_rows, kind_rows, pair_rows, row_rule, size_rows, text_rows, time_rows, with_row}
 use Rattle.command_layout.specs.Table.{is_among, least_size, row_of}
 use Rattle.command_layout.specs.Values.{CommandValue}
-use Rattle.command_codecs.specs.declared.cursor.Cursor.TheVariants as at
+use Rattle.command_codecs.specs.declared.cursor.NextField.TheVariants as at
 use Rattle.command_codecs.specs.declared.row.Row.{Row}
 use Rattle.command_codecs.specs.CommandCursor.{Follows, digits_of, left_of, rows_from, said}
-use Rattle.command_codecs.specs.declared.cursor.Left.TheVariants as left
-use Rattle.command_codecs.specs.declared.cursor.Cursor.{Cursor}
-use Rattle.command_codecs.specs.Views.{row_is}
+use Rattle.field_machine.specs.declared.left.Left.{Left}
+use Rattle.field_machine.specs.declared.left.Left.TheVariants as left
+use Rattle.command_codecs.specs.declared.cursor.NextField.{NextField}
+use Rattle.command_codecs.specs.Views.{kinds_of, row_is}
 
 pub known_codec : (way : Way) (total value : ℕ) (row : Row) (v : CommandValue) (field : List ℕ) → number field ≡ value → Some (row_is row) ≡ row_of way value → Follows way total at.Codec v field (Ok (at.Quantity row))
 unfolding command_rows
@@ -27,13 +27,13 @@ pub unknown_codec : (way : Way) (total value : ℕ) (v : CommandValue) (field : 
 unfolding command_rows
 unknown_codec way total value v field n e = ap row_rule (ap (row_of way) n ∙ sym e)
 
-pub right_kind : (way : Way) (total value : ℕ) (row : Row) (v : CommandValue) (field : List ℕ) → number field ≡ value → is_among value row.kinds.now ≡ true → Follows way total (at.Kind row) v field (Ok (at.Size row))
+pub right_kind : (way : Way) (total value : ℕ) (row : Row) (v : CommandValue) (field : List ℕ) → number field ≡ value → is_among value (kinds_of row.kinds) ≡ true → Follows way total (at.Kind row) v field (Ok (at.Size row))
 unfolding kind_rows
-right_kind way total value row v field n e = (ap (λ t. fault_unless t CommandType) (ap (λ k. is_among k row.kinds.now) n ∙ e), refl)
+right_kind way total value row v field n e = (ap (λ t. fault_unless t CommandType) (ap (λ k. is_among k (kinds_of row.kinds)) n ∙ e), refl)
 
-pub wrong_kind : (way : Way) (total value : ℕ) (row : Row) (v : CommandValue) (field : List ℕ) → number field ≡ value → is_among value row.kinds.now ≡ false → Follows way total (at.Kind row) v field (Err CommandType)
+pub wrong_kind : (way : Way) (total value : ℕ) (row : Row) (v : CommandValue) (field : List ℕ) → number field ≡ value → is_among value (kinds_of row.kinds) ≡ false → Follows way total (at.Kind row) v field (Err CommandType)
 unfolding kind_rows
-wrong_kind way total value row v field n e = ap (λ t. fault_unless t CommandType) (ap (λ k. is_among k row.kinds.now) n ∙ e)
+wrong_kind way total value row v field n e = ap (λ t. fault_unless t CommandType) (ap (λ k. is_among k (kinds_of row.kinds)) n ∙ e)
 
 -- the size
 
@@ -56,7 +56,7 @@ unfolding size_rows
 size_fails way total value row v field n h = wrong_size total (least_size (row_is row)) (number field) (λ e f. h (omega (arith, e, n)) (omega (arith, f, n)))
 
 -- behind the size stand the time, where there is one, and the IMEI and the text
-pub size_follows : (way : Way) (total value text : ℕ) (row : Row) (v : CommandValue) (field : List ℕ) (next : Cursor) → number field ≡ value → value + 8 ≡ total → least_size (row_is row) ≤ value → text ≡ value - least_size (row_is row)
+pub size_follows : (way : Way) (total value text : ℕ) (row : Row) (v : CommandValue) (field : List ℕ) (next : NextField) → number field ≡ value → value + 8 ≡ total → least_size (row_is row) ≤ value → text ≡ value - least_size (row_is row)
     → time_rows row.time (λ time. imei_rows row.imei (λ i. text_rows text (λ t. said v time i t))) ≡ rows_from way total next (record v { time = None; imei = None })
     → Follows way total (at.Size row) v field (Ok next)
 unfolding size_rows
@@ -119,7 +119,7 @@ unfolding time_rows
 with_time way total value text row v field n e fits is has =
     size_follows way total value text row v field (at.Time row.imei text) n e fits is (ap (λ b. time_rows b (λ time. imei_rows row.imei (λ i. text_rows text (λ t. said v time i t)))) has)
 
-pub without_time : (way : Way) (total value text : ℕ) (row : Row) (v : CommandValue) (field : List ℕ) (next : Cursor) → number field ≡ value → value + 8 ≡ total → least_size (row_is row) ≤ value → text ≡ value - least_size (row_is row) → row.time ≡ false
+pub without_time : (way : Way) (total value text : ℕ) (row : Row) (v : CommandValue) (field : List ℕ) (next : NextField) → number field ≡ value → value + 8 ≡ total → least_size (row_is row) ≤ value → text ≡ value - least_size (row_is row) → row.time ≡ false
     → ((w : CommandValue) → rows_from way total next (record w { imei = None }) ≡ imei_rows row.imei (λ i. text_rows text (λ t. said w w.time i t)))
     → Follows way total (at.Size row) v field (Ok next)
 unfolding time_rows
@@ -128,7 +128,7 @@ without_time way total value text row v field next n e fits is has h =
 
 -- the time and the text
 
-pub time_follows : (way : Way) (total text : ℕ) (imei : Bool) (v : CommandValue) (field : List ℕ) (next : Cursor)
+pub time_follows : (way : Way) (total text : ℕ) (imei : Bool) (v : CommandValue) (field : List ℕ) (next : NextField)
     → ((w : CommandValue) → rows_from way total next (record w { imei = None }) ≡ imei_rows imei (λ i. text_rows text (λ t. said w w.time i t)))
     → Follows way total (at.Time imei text) v field (Ok next)
 time_follows way total text imei v field next h = (refl, sym (h (record v { time = Some (number field) })))
@@ -137,20 +137,5 @@ pub text_follows : (way : Way) (total text : ℕ) (v : CommandValue) (field : Li
 unfolding text_rows
 text_follows way total text v field = (refl, refl)
 
--- widths
-
-pub width_is : (way : Way) (total w : ℕ) (cursor : Cursor) (v : CommandValue) → left_of cursor ≡ left.Field w → width_of (rows_from way total cursor v) ≡ Some w
-unfolding command_rows kind_rows size_rows imei_rows pair_rows text_rows
-width_is way total w at.Codec v e = let k : 1 ≡ w = cc in ap (λ x. Some x) k
-width_is way total w (at.Quantity row) v e = let k : 1 ≡ w = cc in ap (λ x. Some x) k
-width_is way total w (at.Kind row) v e = let k : 1 ≡ w = cc in ap (λ x. Some x) k
-width_is way total w (at.Size row) v e = let k : 4 ≡ w = cc in ap (λ x. Some x) k
-width_is way total w (at.Time imei text) v e = let k : 4 ≡ w = cc in ap (λ x. Some x) k
-width_is way total w (at.FirstDigit text) v e = let k : 1 ≡ w = cc in ap (λ x. Some x) k
-width_is way total w (at.Digits behind text) v e = let k : 1 ≡ w = cc in ap (λ x. Some x) k
-width_is way total w (at.Text text) v e = let k : text ≡ w = cc in ap (λ x. Some x) k
-width_is way total w at.LastQuantity v e = let k : 1 ≡ w = cc in ap (λ x. Some x) k
-width_is way total w at.End v e = absurd (cc)
-
-pub short_field : (s t : Cursor) (w : ℕ) (field : List ℕ) → s ≡ t → left_of t ≡ left.Field w → w ≤ 8 → left.Field (length field) ≡ left_of s → length field ≤ 8
-short_field s t w field same is few e = let all : left.Field (length field) ≡ left.Field w = e ∙ ap left_of same ∙ is in let k : length field ≡ w = cc in omega arith
+pub short_field : (s t : NextField) (w : ℕ) (field : List ℕ) → s ≡ t → left_of t ≡ left.Field w → w ≤ 8 → left_of s ≡ left.Field (length field) → length field ≤ 8
+short_field s t w field same is few e = let all : ◌≡◌ {A = Left (Unit {0})} (left.Field (length field)) (left.Field w) = sym e ∙ ap left_of same ∙ is in let k : length field ≡ w = cc in omega arith

@@ -5,23 +5,19 @@ ghost use Rattle.command_layout.specs.Table.{least_size};
 ghost use Rattle.command_layout.specs.Values.{CommandValue};
 ghost use Rattle.command_layout.specs.declared.way.Way.{Way};
 ghost use Rattle.command_layout.specs.CommandRows.{imei_rows, text_rows};
-ghost use Rattle.command_codecs.specs.CommandCursor.{Follows, Reads, left_of, rows_from, said, weight};
+ghost use Rattle.field_machine.specs.Places.{FitsIn, Reads, turns};
+ghost use Rattle.field_machine.specs.declared.left.Left.TheVariants as left;
+ghost use Rattle.command_codecs.specs.CommandCursor.{Follows, left_of, rows_from, said};
 ghost use Rattle.command_codecs.specs.Views.{row_is};
 
 use crate::row::{Row, row_of};
 use avl_values::FaultKind;
 use command_layout::Way;
-
-/// What is left of a command: a field of so many bytes, or nothing.
-#[derive(Clone, Copy)]
-pub enum Left {
-    Field(u64),
-    Nothing,
-}
+use field_machine::Left;
 
 /// The next field of a command, or its end.
 #[derive(Clone, Copy)]
-pub enum Cursor {
+pub enum NextField {
     Codec,
     Quantity(Row),
     Kind(Row),
@@ -37,52 +33,49 @@ pub enum Cursor {
     End,
 }
 
-fn after_codec(way: Way, total: u32, value: u64) -> Result<Cursor, FaultKind>
+fn after_codec(way: Way, value: u64) -> Result<NextField, FaultKind>
     requires { value < 256 }
-    ensures follows { (v : CommandValue) → (field : List ℕ) → number field ≡ value → Follows way total Cursor.Codec v field result }
-    ensures turns { IfOk result (λ cursor. weight cursor ≡ 0) }
+    ensures follows { (total : ℕ) → (v : CommandValue) → (field : List ℕ) → number field ≡ value → Follows way total NextField.Codec v field result }
+    ensures turns { IfOk result (λ cursor. turns (left_of cursor) ≡ 0) }
 {
-    let _total = total;
     match row_of(way, value as u8) {
-        Some(row) => Ok(Cursor::Quantity(row)),
+        Some(row) => Ok(NextField::Quantity(row)),
         None => Err(FaultKind::UnknownCodec),
     }
 }
 
-fn after_quantity(way: Way, total: u32, row: Row, value: u64) -> Result<Cursor, FaultKind>
-    ensures follows { (v : CommandValue) → (field : List ℕ) → number field ≡ value → Follows way total (Cursor.Quantity row) v field result }
-    ensures turns { IfOk result (λ cursor. weight cursor ≡ 0) }
+fn after_quantity(row: Row, value: u64) -> Result<NextField, FaultKind>
+    ensures follows { (way : Way) → (total : ℕ) → (v : CommandValue) → (field : List ℕ) → number field ≡ value → Follows way total (NextField.Quantity row) v field result }
+    ensures turns { IfOk result (λ cursor. turns (left_of cursor) ≡ 0) }
 {
-    let _way = (way, total);
     if value == 1 {
-        Ok(Cursor::Kind(row))
+        Ok(NextField::Kind(row))
     } else {
         Err(FaultKind::Quantity)
     }
 }
 
-fn after_kind(way: Way, total: u32, row: Row, value: u64) -> Result<Cursor, FaultKind>
+fn after_kind(row: Row, value: u64) -> Result<NextField, FaultKind>
     requires { value < 256 }
-    ensures follows { (v : CommandValue) → (field : List ℕ) → number field ≡ value → Follows way total (Cursor.Kind row) v field result }
-    ensures turns { IfOk result (λ cursor. weight cursor ≡ 0) }
+    ensures follows { (way : Way) → (total : ℕ) → (v : CommandValue) → (field : List ℕ) → number field ≡ value → Follows way total (NextField.Kind row) v field result }
+    ensures turns { IfOk result (λ cursor. turns (left_of cursor) ≡ 0) }
 {
-    let _way = (way, total);
     if row.has_kind(value as u8) {
-        Ok(Cursor::Size(row))
+        Ok(NextField::Size(row))
     } else {
         Err(FaultKind::CommandType)
     }
 }
 
 /// What stands behind the time, or behind the size where there is none.
-fn at_imei(imei: bool, text: u32) -> Cursor
+fn at_imei(imei: bool, text: u32) -> NextField
     ensures rows { (way : Way) → (total : ℕ) → (v : CommandValue) → rows_from way total result (record v { imei = None }) ≡ imei_rows imei (λ i. text_rows text (λ t. said v v.time i t)) }
-    ensures turns { weight result ≤ 1 }
+    ensures turns { turns (left_of result) ≤ 1 }
 {
     if imei {
-        Cursor::FirstDigit(text)
+        NextField::FirstDigit(text)
     } else {
-        Cursor::Text(text)
+        NextField::Text(text)
     }
 }
 
@@ -101,16 +94,15 @@ fn text_length(total: u32, least: u32, value: u64) -> Option<u32>
     Some(size - least)
 }
 
-fn after_size(way: Way, total: u32, row: Row, value: u64) -> Result<Cursor, FaultKind>
-    ensures follows { (v : CommandValue) → (field : List ℕ) → number field ≡ value → Follows way total (Cursor.Size row) v field result }
-    ensures turns { IfOk result (λ cursor. weight cursor ≤ 1) }
+fn after_size(total: u32, row: Row, value: u64) -> Result<NextField, FaultKind>
+    ensures follows { (way : Way) → (v : CommandValue) → (field : List ℕ) → number field ≡ value → Follows way total (NextField.Size row) v field result }
+    ensures turns { IfOk result (λ cursor. turns (left_of cursor) ≤ 1) }
 {
-    let _way = way;
     match text_length(total, row.least(), value) {
         None => Err(FaultKind::CommandSize),
         Some(text) => {
             if row.time {
-                Ok(Cursor::Time(row.imei, text))
+                Ok(NextField::Time(row.imei, text))
             } else {
                 Ok(at_imei(row.imei, text))
             }
@@ -118,29 +110,21 @@ fn after_size(way: Way, total: u32, row: Row, value: u64) -> Result<Cursor, Faul
     }
 }
 
-fn after_first_digit(way: Way, total: u32, text: u32, value: u64) -> Result<Cursor, FaultKind>
-    ensures follows { (v : CommandValue) → (field : List ℕ) → number field ≡ value → Follows way total (Cursor.FirstDigit text) v field result }
-    ensures turns { IfOk result (λ cursor. weight cursor ≡ 0) }
+fn after_first_digit(text: u32, value: u64) -> Result<NextField, FaultKind>
+    ensures follows { (way : Way) → (total : ℕ) → (v : CommandValue) → (field : List ℕ) → number field ≡ value → Follows way total (NextField.FirstDigit text) v field result }
+    ensures turns { IfOk result (λ cursor. turns (left_of cursor) ≡ 0) }
 {
-    let _way = (way, total);
     if value <= 9 {
-        Ok(Cursor::Digits(6, text))
+        Ok(NextField::Digits(6, text))
     } else {
         Err(FaultKind::ImeiDigits)
     }
 }
 
-fn after_digits(
-    way: Way,
-    total: u32,
-    behind: u8,
-    text: u32,
-    value: u64,
-) -> Result<Cursor, FaultKind>
-    ensures follows { (v : CommandValue) → (field : List ℕ) → number field ≡ value → Follows way total (Cursor.Digits behind text) v field result }
-    ensures turns { IfOk result (λ cursor. weight cursor ≤ 1) }
+fn after_digits(behind: u8, text: u32, value: u64) -> Result<NextField, FaultKind>
+    ensures follows { (way : Way) → (total : ℕ) → (v : CommandValue) → (field : List ℕ) → number field ≡ value → Follows way total (NextField.Digits behind text) v field result }
+    ensures turns { IfOk result (λ cursor. turns (left_of cursor) ≤ 1) }
 {
-    let _way = (way, total);
     if value / 16 > 9 {
         return Err(FaultKind::ImeiDigits);
     }
@@ -148,75 +132,58 @@ fn after_digits(
         return Err(FaultKind::ImeiDigits);
     }
     if behind == 0 {
-        Ok(Cursor::Text(text))
+        Ok(NextField::Text(text))
     } else {
-        Ok(Cursor::Digits(behind - 1, text))
+        Ok(NextField::Digits(behind - 1, text))
     }
 }
 
-fn after_last(way: Way, total: u32, value: u64) -> Result<Cursor, FaultKind>
-    ensures follows { (v : CommandValue) → (field : List ℕ) → number field ≡ value → Follows way total Cursor.LastQuantity v field result }
-    ensures turns { IfOk result (λ cursor. weight cursor ≡ 0) }
+fn after_last(value: u64) -> Result<NextField, FaultKind>
+    ensures follows { (way : Way) → (total : ℕ) → (v : CommandValue) → (field : List ℕ) → number field ≡ value → Follows way total NextField.LastQuantity v field result }
+    ensures turns { IfOk result (λ cursor. turns (left_of cursor) ≡ 0) }
 {
-    let _way = (way, total);
     if value == 1 {
-        Ok(Cursor::End)
+        Ok(NextField::End)
     } else {
         Err(FaultKind::Quantity)
     }
 }
 
-fn after_time(way: Way, total: u32, imei: bool, text: u32) -> Cursor
-    ensures follows { (v : CommandValue) → (field : List ℕ) → Follows way total (Cursor.Time imei text) v field (Ok result) }
-    ensures turns { weight result ≤ 1 }
-{
-    let _way = (way, total);
-    at_imei(imei, text)
-}
-
-fn after_text(way: Way, total: u32, text: u32) -> Cursor
-    ensures follows { (v : CommandValue) → (field : List ℕ) → Follows way total (Cursor.Text text) v field (Ok result) }
-    ensures turns { weight result ≡ 0 }
-{
-    let _way = (way, total, text);
-    Cursor::LastQuantity
-}
-
-impl Cursor {
+impl NextField {
     /// The width of the next field, if one is left.
-    pub fn left(self) -> Left
+    pub fn left(self) -> Left<()>
         ensures { result ≡ left_of self }
     {
         match self {
-            Cursor::Size(_) | Cursor::Time(_, _) => Left::Field(4),
-            Cursor::Text(text) => Left::Field(text as u64),
-            Cursor::Codec
-            | Cursor::Quantity(_)
-            | Cursor::Kind(_)
-            | Cursor::FirstDigit(_)
-            | Cursor::Digits(_, _)
-            | Cursor::LastQuantity => Left::Field(1),
-            Cursor::End => Left::Nothing,
+            NextField::Size(_) | NextField::Time(_, _) => Left::Field(4),
+            NextField::Text(text) => Left::Field(text as u64),
+            NextField::Codec
+            | NextField::Quantity(_)
+            | NextField::Kind(_)
+            | NextField::FirstDigit(_)
+            | NextField::Digits(_, _)
+            | NextField::LastQuantity => Left::Field(1),
+            NextField::End => Left::Nothing(()),
         }
     }
 
     /// What stands after a field of this value, or the rule that the field breaks.
-    pub fn next(self, way: Way, total: u32, value: u64) -> Result<Cursor, FaultKind>
-        requires { left_of self ≡ Left.Field 1 → value < 256 }
-        ensures follows { (v : CommandValue) → (field : List ℕ) → Left.Field (length field) ≡ left_of self → Reads field value → Follows way total self v field result }
-        ensures turns { IfOk result (λ cursor. weight cursor + weight self ≤ 1) }
+    pub fn next(self, way: Way, total: u32, value: u64) -> Result<NextField, FaultKind>
+        requires { FitsIn (left_of self) value }
+        ensures follows { (v : CommandValue) → (field : List ℕ) → left_of self ≡ left.Field (length field) → Reads field value → Follows way total self v field result }
+        ensures turns { IfOk result (λ cursor. turns (left_of cursor) + turns (left_of self) ≤ 1) }
     {
         match self {
-            Cursor::Codec => after_codec(way, total, value),
-            Cursor::Quantity(row) => after_quantity(way, total, row, value),
-            Cursor::Kind(row) => after_kind(way, total, row, value),
-            Cursor::Size(row) => after_size(way, total, row, value),
-            Cursor::Time(imei, text) => Ok(after_time(way, total, imei, text)),
-            Cursor::FirstDigit(text) => after_first_digit(way, total, text, value),
-            Cursor::Digits(behind, text) => after_digits(way, total, behind, text, value),
-            Cursor::Text(text) => Ok(after_text(way, total, text)),
-            Cursor::LastQuantity => after_last(way, total, value),
-            Cursor::End => Ok(Cursor::End),
+            NextField::Codec => after_codec(way, value),
+            NextField::Quantity(row) => after_quantity(row, value),
+            NextField::Kind(row) => after_kind(row, value),
+            NextField::Size(row) => after_size(total, row, value),
+            NextField::Time(imei, text) => Ok(at_imei(imei, text)),
+            NextField::FirstDigit(text) => after_first_digit(text, value),
+            NextField::Digits(behind, text) => after_digits(behind, text, value),
+            NextField::Text(_) => Ok(NextField::LastQuantity),
+            NextField::LastQuantity => after_last(value),
+            NextField::End => Ok(NextField::End),
         }
     }
 }

@@ -1,12 +1,13 @@
 //! What a command has said so far.
 ghost use Rattle.std.specs.Prelude.{◌≡◌, ◌≤◌, ◌<◌, ◌+◌, ◌*◌, ◌/◌, ◌%◌, ◌^◌, ℕ, List, Some, length};
-ghost use Rattle.layout.specs.Fields.{number};
 ghost use Rattle.command_layout.specs.Values.{CommandValue};
+ghost use Rattle.field_machine.specs.Places.{FitsIn, Reads};
+ghost use Rattle.field_machine.specs.declared.left.Left.TheVariants as left;
 ghost use Rattle.command_codecs.specs.CommandCursor.{digits_of, heard, left_of};
 ghost use Rattle.command_codecs.specs.Hearing.{Says, nothing_said, with_text};
 
 use crate::command::Command;
-use crate::cursor::{Cursor, Left};
+use crate::cursor::NextField;
 use avl_values::Imei;
 
 /// What a command has said before its text. While the IMEI is read it is the number of the digits so far.
@@ -27,14 +28,14 @@ fn with_pair(imei: Option<Imei>, pair: u64) -> Option<Imei>
     Imei::from_number(digits * 100 + (pair / 16 * 10 + pair % 16))
 }
 
-/// What the text is once this field says its own.
-pub fn text_heard<'a>(at: Cursor, text: &'a [u8], field: &'a [u8]) -> &'a [u8]
-    ensures { (v : CommandValue) → v.text ≡ text.now → result.now ≡ (heard at v field.now).text }
+/// How long the text is once this field says its own.
+pub fn text_heard(at: NextField, text: u32) -> u32
+    ensures { (v : CommandValue) → (field : List ℕ) → left_of at ≡ left.Field (length field) → length v.text ≡ text → length (heard at v field).text ≡ result }
 {
-    if let Cursor::Text(_) = at {
-        return field;
+    match at {
+        NextField::Text(length) => length,
+        _ => text,
     }
-    text
 }
 
 impl Said {
@@ -53,41 +54,41 @@ impl Said {
     }
 
     /// Once the field at this place says its value too.
-    pub fn heard(self, at: Cursor, field: &[u8], value: u64) -> Said
-        requires width { Left.Field (length field.now) ≡ left_of at }
-        requires value { length field.now ≤ 8 → value ≡ number field.now }
-        requires small { length field.now ≤ 8 → value < 256 ^ length field.now }
-        ensures { (v : CommandValue) → Says self v → Says result (heard at v field.now) }
+    pub fn heard(self, at: NextField, value: u64) -> Said
+        requires { FitsIn (left_of at) value }
+        ensures { (v : CommandValue) → (field : List ℕ) → left_of at ≡ left.Field (length field) → Reads field value → Says self v → Says result (heard at v field) }
     {
-        let _field = field;
         match at {
-            Cursor::Codec => Said {
+            NextField::Codec => Said {
                 codec: value as u8,
                 ..self
             },
-            Cursor::Kind(_) => Said {
+            NextField::Kind(_) => Said {
                 kind: value as u8,
                 ..self
             },
-            Cursor::Size(_) => Said {
+            NextField::Size(_) => Said {
                 time: None,
                 imei: None,
                 ..self
             },
-            Cursor::Time(_, _) => Said {
+            NextField::Time(_, _) => Said {
                 time: Some(value as u32),
                 imei: None,
                 ..self
             },
-            Cursor::FirstDigit(_) => Said {
+            NextField::FirstDigit(_) => Said {
                 imei: Imei::from_number(value),
                 ..self
             },
-            Cursor::Digits(_, _) => Said {
+            NextField::Digits(_, _) => Said {
                 imei: with_pair(self.imei, value),
                 ..self
             },
-            Cursor::Quantity(_) | Cursor::Text(_) | Cursor::LastQuantity | Cursor::End => self,
+            NextField::Quantity(_)
+            | NextField::Text(_)
+            | NextField::LastQuantity
+            | NextField::End => self,
         }
     }
 

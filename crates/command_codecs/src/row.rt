@@ -1,34 +1,37 @@
 //! The table of what stands in a command.
 ghost use Rattle.std.specs.Prelude.{◌≡◌, ◌≤◌, Some};
 ghost use Rattle.command_layout.specs.Table.{is_among, least_size, row_of};
-ghost use Rattle.command_codecs.specs.Views.{found_row, row_is};
+ghost use Rattle.command_codecs.specs.Views.{found_row, kinds_of, row_is};
 
 use command_layout::Way;
+
+/// The types that may stand in a command of a codec and way.
+#[derive(Clone, Copy)]
+pub enum Kinds {
+    /// `05`.
+    Order,
+    /// `06`.
+    Response,
+    /// `06` or `11`.
+    ResponseOrRefusal,
+    /// `0B`.
+    Message,
+}
 
 /// The types that may stand in a command of a codec and way, and whether its content has a time and an IMEI.
 #[derive(Clone, Copy)]
 pub struct Row {
     /// The types that may stand in it.
-    pub kinds: &'static [u8],
+    pub kinds: Kinds,
     /// Whether its content begins with a time.
     pub time: bool,
     /// Whether an IMEI stands before its text.
     pub imei: bool,
 }
 
-const KINDS_12_UP: [u8; 1] = [0x06];
-
-const KINDS_13_UP: [u8; 1] = [0x06];
-
-const KINDS_14_UP: [u8; 2] = [0x06, 0x11];
-
-const KINDS_15_UP: [u8; 1] = [0x0b];
-
-const KINDS_DOWN: [u8; 1] = [0x05];
-
 /// A command with these types, of a codec that has a time, an IMEI, both or neither.
-fn some_row(kinds: &'static [u8], time: bool, imei: bool) -> Option<Row>
-    ensures { found_row result ≡ Some (record { kinds = kinds.now; time = time; imei = imei }) }
+fn some_row(kinds: Kinds, time: bool, imei: bool) -> Option<Row>
+    ensures { found_row result ≡ Some (record { kinds = kinds_of kinds; time = time; imei = imei }) }
 {
     Some(Row { kinds, time, imei })
 }
@@ -39,15 +42,15 @@ pub fn row_of(way: Way, id: u8) -> Option<Row>
 {
     match way {
         Way::Up => match id {
-            0x0c => some_row(&KINDS_12_UP, false, false),
-            0x0d => some_row(&KINDS_13_UP, true, false),
-            0x0e => some_row(&KINDS_14_UP, false, true),
-            0x0f => some_row(&KINDS_15_UP, true, true),
+            0x0c => some_row(Kinds::Response, false, false),
+            0x0d => some_row(Kinds::Response, true, false),
+            0x0e => some_row(Kinds::ResponseOrRefusal, false, true),
+            0x0f => some_row(Kinds::Message, true, true),
             _ => None,
         },
         Way::Down => match id {
-            0x0c => some_row(&KINDS_DOWN, false, false),
-            0x0e => some_row(&KINDS_DOWN, false, true),
+            0x0c => some_row(Kinds::Order, false, false),
+            0x0e => some_row(Kinds::Order, false, true),
             _ => None,
         },
     }
@@ -69,15 +72,13 @@ impl Row {
 
     /// Whether a type is one of the row's.
     pub fn has_kind(&self, kind: u8) -> bool
-        ensures { result ≡ is_among kind self.now.kinds.now }
+        ensures { result ≡ is_among kind (kinds_of self.now.kinds) }
     {
-        let mut kinds = self.kinds;
-        while let Some((first, rest)) = kinds.split_first() {
-            if *first == kind {
-                return true;
-            }
-            kinds = rest;
+        match self.kinds {
+            Kinds::Order => kind == 0x05,
+            Kinds::Response => kind == 0x06,
+            Kinds::ResponseOrRefusal => kind == 0x06 || kind == 0x11,
+            Kinds::Message => kind == 0x0b,
         }
-        false
     }
 }

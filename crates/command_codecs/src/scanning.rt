@@ -1,88 +1,36 @@
-//! A command's body judged and read, field by field.
-ghost use Rattle.std.specs.Prelude.{◌≡◌, ◌≤◌, ◌^◌, IfErr, IfOk, length};
+//! A command's body judged and read.
+ghost use Rattle.std.specs.Prelude.{◌≡◌, ◌≤◌, ◌+◌, ◌-◌, ◌^◌, IfErr, IfOk, length, take, drop};
 ghost use Rattle.layout.specs.Rows.{fault, whole};
 ghost use Rattle.command_layout.specs.CommandRows.{command_verdict};
 ghost use Rattle.command_layout.specs.Spelling.{IsCommand};
-ghost use Rattle.command_codecs.specs.Verdicts.{reading_verdict, scan_verdict, without_value};
+ghost use Rattle.command_codecs.specs.Verdicts.{scan_verdict, without_value};
 ghost use Rattle.command_codecs.specs.Views.{value_of};
 
 use crate::command::Command;
-use crate::cursor::{Cursor, Left};
-use crate::hearing::{Said, text_heard};
+use crate::place::CommandPlace;
+use crate::reading::Hearing;
 use crate::verdict::CommandScan;
-use avl_values::{Fault, FaultKind};
+use avl_values::Fault;
 use command_layout::Way;
-use layout::number;
-
-/// What is known of a command's body from its first bytes, and what it says where it is whole.
-#[derive(Clone, Copy)]
-enum Reading<'a> {
-    More,
-    Whole(Command<'a>),
-    Broken(Fault),
-}
-
-/// Reads the first bytes of a command's body of `total` bytes. Each byte is read once.
-fn read(have: &[u8], total: u32, way: Way) -> Reading<'_>
-    requires { length have.now ≤ total }
-    ensures { reading_verdict total result ≡ command_verdict way total have.now }
-{
-    let mut cursor = Cursor::Codec;
-    let mut said = Said::nothing();
-    let mut text: &[u8] = &[];
-    let mut rest = have;
-    let mut place: u32 = 0;
-    'fields: loop {
-        let room = total - place;
-        match cursor.left() {
-            Left::Nothing => {
-                if room > 0 {
-                    return Reading::Broken(Fault {
-                        kind: FaultKind::Excess,
-                        place,
-                    });
-                }
-                let command = said.with_text(text);
-                return Reading::Whole(command);
-            }
-            Left::Field(width) => {
-                if width > u64::from(room) {
-                    return Reading::Broken(Fault {
-                        kind: FaultKind::Overrun,
-                        place,
-                    });
-                }
-                let width = width as usize;
-                if rest.len() < width {
-                    return Reading::More;
-                }
-                let (field, after) = rest.split_at(width);
-                let value = number(field);
-                match cursor.next(way, total, value) {
-                    Err(kind) => return Reading::Broken(Fault { kind, place }),
-                    Ok(next) => {
-                        said = said.heard(cursor, field, value);
-                        text = text_heard(cursor, text, field);
-                        cursor = next;
-                    }
-                }
-                rest = after;
-                place += width as u32;
-            }
-        }
-    }
-}
+use field_machine::{Scan, scan, scan_with};
 
 /// Judges the first bytes of a command's body of `total` bytes. Each byte is read once.
 pub fn scan_command(have: &[u8], total: u32, way: Way) -> CommandScan
     requires { length have.now ≤ total }
     ensures { scan_verdict total result ≡ without_value (command_verdict way total have.now) }
 {
-    match read(have, total, way) {
-        Reading::More => CommandScan::More,
-        Reading::Whole(_) => CommandScan::Whole,
-        Reading::Broken(fault) => CommandScan::Broken(fault),
-    }
+    CommandScan::of(scan(have, total, CommandPlace::first(total, way)))
+}
+
+/// The text of a whole command, which has `count` bytes and stands before the last quantity.
+fn text_of(body: &[u8], count: u32) -> &[u8]
+    requires { count + 1 ≤ length body.now }
+    ensures { result.now ≡ take count (drop (length body.now - (count + 1)) body.now) }
+{
+    let count = count as usize;
+    let (_, rest) = body.split_at(body.len() - (count + 1));
+    let (text, _) = rest.split_at(count);
+    text
 }
 
 /// Reads a whole body: what the command says, or the first fault (Teltonika, Data Sending Protocols: Codecs 12, 13, 14, 15). Each
@@ -93,9 +41,10 @@ pub fn read_command(body: &[u8], way: Way) -> Result<Command<'_>, Fault>
     ensures command { IfOk result (λ command. IsCommand way (value_of command) body.now) }
     ensures broken { IfErr result (λ found. command_verdict way (length body.now) body.now ≡ fault found.kind found.place) }
 {
-    match read(body, body.len() as u32, way) {
-        Reading::Whole(command) => Ok(command),
-        Reading::Broken(fault) => Err(fault),
-        Reading::More => unreachable!(),
+    let total = body.len() as u32;
+    match scan_with(body, total, Hearing::first(total, way)) {
+        Scan::Whole(heard) => Ok(heard.said.with_text(text_of(body, heard.text))),
+        Scan::Broken(fault) => Err(fault),
+        Scan::More => unreachable!(),
     }
 }

@@ -11,6 +11,7 @@ ghost use Rattle.command_codecs.specs.Views.{value_of};
 use crate::command::Command;
 use arrayvec::ArrayVec;
 use avl_values::Imei;
+use layout::put_all;
 
 /// A body has one command.
 const QUANTITY: u8 = 1;
@@ -36,15 +37,6 @@ fn digit_pairs(imei: Imei) -> [u8; 8]
         two_digits(n / 100),
         two_digits(n),
     ]
-}
-
-fn put_all(out: &mut ArrayVec<u8, 1268>, bytes: &[u8])
-    requires { array_vec_len out.old + length bytes.now ≤ 1268 }
-    ensures bytes { out.new.items ≡ out.old.items ++ bytes.now }
-    ensures len { array_vec_len out.new ≡ array_vec_len out.old + length bytes.now }
-    ensures fit { AreBytes bytes.now }
-{
-    let _added = out.try_extend_from_slice(bytes);
 }
 
 fn put_time(out: &mut ArrayVec<u8, 1268>, time: Option<u32>)
@@ -110,10 +102,10 @@ fn put_command(out: &mut ArrayVec<u8, 1268>, command: &Command<'_>, size: usize)
     out.push(QUANTITY);
 }
 
-#[tactic(auto, using(crate::proofs::Sizes::content_length, crate::proofs::Sizes::body_length))]
 /// Writes the body of a command over what stood in `out` (Teltonika, Data Sending Protocols: Codecs 12, 13, 14, 15). It is false,
 /// with `out` empty, exactly where the body has more than 1,268 bytes. What is written is a command of each way in which the
 /// value is well-formed.
+#[tactic(auto, using(crate::proofs::Sizes::content_length, crate::proofs::Sizes::body_length))]
 pub fn write_command(command: &Command<'_>, out: &mut ArrayVec<u8, 1268>) -> bool
     ensures room { IsTrue result ↔ (length (command_of (value_of command.now)) ≤ 1268) }
     ensures bytes { OnTrue result (out.new.items ≡ command_of (value_of command.now)) }

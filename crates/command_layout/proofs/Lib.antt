@@ -3,4 +3,5 @@ pub mod CommandFills
 pub mod CommandLaws
 pub mod ContentFills
 pub mod Examples
+pub mod Exports
 pub mod ImeiFills

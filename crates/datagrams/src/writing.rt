@@ -14,21 +14,12 @@ use crate::datagram::Datagram;
 use crate::reply::Reply;
 use arrayvec::ArrayVec;
 use frame_layout::write_login;
+use layout::put_all;
 
 /// The bytes of a datagram that stand before its body: its length field, its numbers and its IMEI.
 const HEAD: usize = 23;
 
 const LONGEST_BODY: usize = 1280 - HEAD;
-
-/// These bytes, for which there is room.
-fn put_all(out: &mut ArrayVec<u8, 1280>, bytes: &[u8])
-    requires { array_vec_len out.old + length bytes.now ≤ 1280 }
-    ensures bytes { out.new.items ≡ out.old.items ++ bytes.now }
-    ensures len { array_vec_len out.new ≡ array_vec_len out.old + length bytes.now }
-    ensures fit { AreBytes bytes.now }
-{
-    let _added = out.try_extend_from_slice(bytes);
-}
 
 /// A datagram's three numbers, for which there is room.
 fn put_numbers(out: &mut ArrayVec<u8, 1280>, packet: u16, unused: u8, avl_packet: u8)

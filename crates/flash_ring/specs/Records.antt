@@ -24,7 +24,7 @@ abbrev pub bytes_of : List Record → ℕ
 bytes_of [] = 0
 bytes_of (r ∷ rs) = length r.bytes + bytes_of rs
 
--- Records that make one data body: of one codec, at most so many record bytes, at most 255 records.
+-- Records that make one data body: of one codec, at most that many record bytes, at most 255 records.
 pub record IsBatch (room : ℕ) (recs : List Record) : Type 0 where
   pub codec : Codec
   pub one_codec : (r : Record) → Contains recs r → r.codec ≡ codec

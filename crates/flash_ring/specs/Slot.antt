@@ -8,11 +8,11 @@ use Rattle.avl_values.specs.declared.codec.Codec.{Codec}
 use Rattle.avl_values.specs.Codec.{codec_of, id_of}
 use Rattle.flash_ring.specs.Held.{Held, IsSoundHeld}
 
--- the slot behind its gate, 271 bytes
+-- the slot after its gate, 271 bytes
 abbrev pub body_of : Held → List ℕ
 body_of h = id_of h.rec.codec ∷ length h.rec.bytes ∷ to_be_bytes w64 h.seq ++ (h.rec.bytes ++ replicate (261 - length h.rec.bytes) 0)
 
--- what the fields behind an open gate say
+-- what the fields after an open gate say
 abbrev pub fields_of : List ℕ → Option Codec → Option Held
 fields_of bytes None = None
 fields_of bytes (Some codec) = Some (record {

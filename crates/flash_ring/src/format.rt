@@ -7,7 +7,7 @@ use crate::held::SLOT_BYTES;
 use avl_values::Failed;
 use medium_model::Medium;
 
-/// Writes so many closed slots onto an empty medium, and syncs.
+/// Writes `slots` closed slots onto an empty medium, and syncs.
 pub fn format<M: Medium>(medium: &mut M, slots: u16) -> Result<(), Failed>
     requires few { slots ≤ 4096 }
     requires empty { IfTold (M.state medium.old).content (λ c. c.reads ≡ []) }
@@ -17,7 +17,7 @@ pub fn format<M: Medium>(medium: &mut M, slots: u16) -> Result<(), Failed>
     ensures counted { Counted (slots + 1) (M.state medium.old) (M.state medium.new) (IsErr result) }
 {
     for slot in 0..slots {
-        medium.write(272 * slot as u64, &[0; SLOT_BYTES])?;
+        medium.write(SLOT_BYTES as u64 * slot as u64, &[0; SLOT_BYTES])?;
     }
     medium.sync()?;
     Ok(())

@@ -46,7 +46,7 @@ impl Held {
         }
     }
 
-    /// The slot's bytes behind its gate.
+    /// The slot's bytes after its gate.
     pub fn body(&self) -> ArrayVec<u8, 271>
         ensures bytes { result.items ≡ body_of self.now }
         ensures fits { length self.now.rec.bytes ≤ 255 }
@@ -98,7 +98,7 @@ pub fn read_slot(bytes: &[u8]) -> Result<Option<Held>, Unsound>
     }
 }
 
-// The record behind an open gate, where it is sound.
+// The record after an open gate, where it is sound.
 fn read_fields(bytes: &[u8]) -> Option<Held>
     requires whole { length bytes.now ≡ 272 }
     ensures some { IfSome result (λ held. fields_of bytes.now (codec_of (slice_index bytes.now 1)) ≡ Some held) }

@@ -11,7 +11,7 @@ ghost use Rattle.flash_ring.specs.Images.{AreDistinct, AreOpen, MayClose};
 ghost use Rattle.flash_ring.specs.Records.{HasDistinctSeqs, IsBatch, recs_in, without};
 ghost use Rattle.flash_ring.specs.Slot.{slots_of};
 
-/// A record put in above all sequences goes behind those that are held.
+/// A record put in above all sequences goes after those that are held.
 pub fn put_goes_last()
     ensures { (slots : List (Option Held)) → (h : Held) → is_full slots ≡ false → AreBelow h.seq slots → held_of (put_in slots h) ≡ held_of slots ++ h.rec ∷ [] }
 {}
@@ -34,7 +34,7 @@ pub fn closing_some_leaves_a_part()
     ensures no_more { (ks : List ℕ) → (before : List (Option Held)) → (left : List (Option Held)) → MayClose ks before left → (r : Record) → Contains (held_of left) r → Contains (held_of before) r }
 {}
 
-/// A selection is a front of the open slots in its order, and the oldest, closed, leaves what is held behind as many records.
+/// A selection is a front of the open slots in its order, and the oldest, closed, leaves what is held after as many records.
 pub fn selection_is_a_front()
     ensures front { (order : Order) → (room : ℕ) → (slots : List (Option Held)) → recs_in slots (selected order room slots) ≡ map rec_of (take (length (selected order room slots)) (entries_of order slots)) }
     ensures released { (room : ℕ) → (slots : List (Option Held)) → held_of (closed_all (selected Oldest room slots) slots) ≡ drop (length (selected Oldest room slots)) (held_of slots) }

@@ -68,7 +68,7 @@ impl From<NoMemory> for OpenFault {
     }
 }
 
-/// So many closed slots.
+/// That many closed slots.
 pub fn closed_slots(alloc: Global, slots: u16) -> Result<Vec<Option<Held>>, NoMemory>
     ensures { IfOk result (λ v. length v.items ≡ slots) }
 {
@@ -170,7 +170,7 @@ fn make_ready<M: Medium>(medium: &mut M, to: u64) -> Result<(), OpenFault>
     }
 }
 
-/// Makes the medium ready, takes memory for so many slots, and loads them.
+/// Makes the medium ready, takes memory for `slots` slots, and loads them.
 pub fn load_anew<M: Medium>(
     alloc: Global,
     medium: &mut M,

@@ -114,7 +114,7 @@ fn next_after(slots: &[Option<Held>]) -> u64
 }
 
 impl<M: Medium> Ring<M> {
-    /// Writes so many closed slots onto an empty medium, and syncs. After a fault, or a power loss inside it, the medium has to
+    /// Writes `slots` closed slots onto an empty medium, and syncs. After a fault, or a power loss inside it, the medium has to
     /// be emptied and formatted again.
     pub fn format(medium: &mut M, slots: u16) -> Result<(), MediumFault>
         requires some { 1 ≤ slots }
@@ -325,6 +325,7 @@ impl<M: Medium> Ring<M> {
         ensures failed { OnErr result (self.new ≡ record self.old { medium = self.new.medium; down = true }) }
         ensures counted { Counted (room_calls self.old) self.old.medium self.new.medium (IsErr result) }
     {
+        // The proof takes from it that the ring is durable.
         let _durable = self.is_down();
         match oldest(&self.slots) {
             None => Ok(()),
@@ -345,7 +346,7 @@ impl<M: Medium> Ring<M> {
         select(&self.slots, order, room)
     }
 
-    /// The record of an open slot, None for a closed one and behind the last.
+    /// The record of an open slot, None for a closed one and after the last.
     #[tactic(auto, using(crate::proofs::Rings::durable_up, crate::proofs::Rings::rec_at_read, crate::proofs::Rings::rec_at_past, crate::proofs::Rings::sound_at))]
     pub fn rec_at(&self, slot: u16) -> Option<&Rec>
         requires { self.now.down ≡ false }

@@ -2,9 +2,8 @@ ghost use Rattle.std.specs.Prelude.{◌≡◌, ◌<◌, ◌-◌, ◌^◌, ℕ, L
 ghost use Rattle.std.specs.Borrow.{Lends, sem};
 ghost use Rattle.fmb_host.specs.Host.{HandsOut, HostView, TakesBack, with_host_fault};
 
-use crate::sink::Sink;
-use crate::source::Source;
 use avl_values::Failed;
+use text_streams::{Sink, Source};
 use trial_model::Outcome;
 
 /// How often the host's own opens have failed, and how many texts, media and doors came back that had failed.
@@ -27,7 +26,7 @@ pub trait Host {
     type Out: Sink + Drop;
 
     /// The host as contracts see it.
-    ghost view: { Self → HostView Self.Text Self.Out };
+    ghost view: { Self → HostView };
 
     /// The host with another sink.
     ghost with_sink: { Self → Self.Out → Self };
@@ -38,15 +37,15 @@ pub trait Host {
     /// Hands out a text that has not failed yet. `Failed` counts.
     fn open_text(&mut self, name: &str) -> Result<Self::Text, Failed>
         requires { (view self.old).counts.host < 2 ^ 64 - 1 }
-        ensures handed { IfOk result (λ text. HandsOut (view self.old) text (view self.new)) }
-        ensures fresh { IfOk result (λ text. Self.Text.failures text ≡ 0) }
-        ensures named { IfOk result (λ text. IfSome (Self.Text.name text) (λ told. told ≡ name.now)) }
+        ensures handed { IfOk result (λ text. HandsOut (view self.old) (Self.Text.state text) (view self.new)) }
+        ensures fresh { IfOk result (λ text. (Self.Text.state text).faults ≡ 0) }
+        ensures named { IfOk result (λ text. IfSome (Self.Text.state text).name (λ told. told ≡ name.now)) }
         ensures failed { OnErr result (view self.new ≡ with_host_fault (view self.old)) };
 
     /// Takes a text back, and counts it where it has failed. It takes no memory.
     fn text_back(&mut self, text: Self::Text)
         requires { (view self.old).counts.texts < 2 ^ 64 - 1 }
-        ensures { TakesBack (view self.old) (Self.Text.failures text) text (view self.new) };
+        ensures { TakesBack (view self.old) (Self.Text.state text) (view self.new) };
 
     /// Keeps the outcome, in place of the one before. It takes no memory.
     fn outcome_back(&mut self, outcome: Outcome)
@@ -59,7 +58,7 @@ pub trait Host {
     /// Lends the sink. What is done on it changes nothing else.
     fn out(&mut self) -> &mut Self::Out
         ensures* writes_back { sem 𝓛 (Lends Self.row Self.Out.row self.entry result (with_sink self.old)) }
-        ensures value { result.now ≡ (view self.old).sink };
+        ensures value { Self.Out.state result.now ≡ (view self.old).sink };
 
-    ghost lends_sink: { (host : Self) (other : Self.Out) → view (with_sink host other) ≡ record (view host) { sink = other } };
+    ghost lends_sink: { (host : Self) (other : Self.Out) → view (with_sink host other) ≡ record (view host) { sink = Self.Out.state other } };
 }

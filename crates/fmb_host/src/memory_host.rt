@@ -2,16 +2,15 @@ ghost use Rattle.std.specs.Prelude.{◌≡◌, ◌↔◌, ◌⊎◌, ◌+◌, �
 ghost use Rattle.std.specs.Borrow.{Lends, sem};
 ghost use Rattle.avl_values.specs.Causes.{more_by_one};
 ghost use Rattle.fmb_host.specs.Host.{HandsOut, HostView, TakesBack, with_host_fault};
-ghost use Rattle.fmb_host.specs.Memory.{MemoryHostState, host_view, new_host};
+ghost use Rattle.fmb_host.specs.Memory.{host_view, new_host};
+ghost use Rattle.text_streams.specs.Memory.{source_state};
 
 use crate::host::{Counts, Host};
-use crate::memory_sink::MemorySink;
-use crate::memory_source::MemorySource;
-use crate::source::Source;
 use avl_values::{Failed, NoMemory};
 use std::alloc::Global;
 use std::collections::VecDeque;
 use std::marker::Model;
+use text_streams::{MemorySink, MemorySource, Source};
 use trial_model::Outcome;
 
 /// A host in memory. It hands out the texts that were added, in that order and whatever the name, and its opens fail at
@@ -33,9 +32,9 @@ impl Model for MemoryHost {
     ghost use Rattle.std.specs.Prelude.{◌+◌, ◌≤◌, Some, None, if◌then◌else◌, vec_len};
     ghost use Rattle.std.specs.Vec.{vec_capacity};
     ghost use Rattle.std.specs.VecDeque.{deque_len};
-    ghost use Rattle.fmb_host.specs.Memory.{MemoryHostState, AreFresh};
+    ghost use Rattle.fmb_host.specs.Memory.{MemoryHostView, AreFresh};
 
-    ghost Value = { MemoryHostState };
+    ghost Value = { MemoryHostView };
 
     ghost view = { λ h. record {
       counts = h.counts;
@@ -75,7 +74,7 @@ impl MemoryHost {
         })
     }
 
-    /// Queues a text that has not failed yet behind those that are handed out before. It takes the memory for what comes
+    /// Queues a text that has not failed yet after those that are handed out before. It takes the memory for what comes
     /// back, too. NoMemory changes nothing.
     pub fn add_text(&mut self, source: MemorySource) -> Result<(), NoMemory>
         requires { source.faults ≡ 0 }
@@ -118,7 +117,7 @@ impl Host for MemoryHost {
 
     fn open_text(&mut self, name: &str) -> Result<MemorySource, Failed>
         requires { self.old.counts.host < 2 ^ 64 - 1 }
-        ensures handed { IfOk result (λ text. HandsOut (host_view self.old) text (host_view self.new)) }
+        ensures handed { IfOk result (λ text. HandsOut (host_view self.old) (source_state text) (host_view self.new)) }
         ensures fresh { IfOk result (λ text. text.faults ≡ 0) }
         ensures named { IfOk result (λ text. IfSome None (λ told. told ≡ name.now)) }
         ensures failed { OnErr result (host_view self.new ≡ with_host_fault (host_view self.old)) }
@@ -143,7 +142,7 @@ impl Host for MemoryHost {
 
     fn text_back(&mut self, text: MemorySource)
         requires { self.old.counts.texts < 2 ^ 64 - 1 }
-        ensures taken { TakesBack (host_view self.old) text.faults text (host_view self.new) }
+        ensures taken { TakesBack (host_view self.old) (source_state text) (host_view self.new) }
 
         // it keeps a text that it has handed out, where it has kept those before
         ensures kept { 0 < self.old.lent → IsSome self.old.texts_back → IsSome self.new.texts_back }

@@ -1,8 +1,8 @@
 ghost use Rattle.std.specs.Prelude.{◌≡◌, None};
 
 use avl_values::Failed;
-use fmb_host::Source;
 use std::io::Read;
+use text_streams::Source;
 
 /// A file, or any reader, as a text. It tells nothing of its bytes or its name.
 #[derive(Drop)]
@@ -21,11 +21,7 @@ impl<R: Read + Drop> FileText<R> {
 }
 
 impl<R: Read + Drop> Source for FileText<R> {
-    ghost left = { λ s. None };
-
-    ghost name = { λ s. None };
-
-    ghost failures = { λ s. s.faults };
+    ghost state = { λ s. record { left = None; name = None; faults = s.faults } };
 
     fn faults(&self) -> u64 {
         self.faults

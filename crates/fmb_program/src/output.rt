@@ -1,8 +1,8 @@
 ghost use Rattle.std.specs.Prelude.{◌<◌, ◌≤◌, None, IfSome, length};
 
 use avl_values::Failed;
-use fmb_host::Sink;
 use std::io::Write;
+use text_streams::Sink;
 
 /// Standard output, or any writer, as a sink. It passes on each piece at once, and tells nothing of what was written. A write
 /// that takes nothing of a piece that isn't empty counts as a failure, and so does a flush that fails.
@@ -33,9 +33,7 @@ fn write_through<W: Write>(writer: &mut W, from: &[u8]) -> Option<usize>
 }
 
 impl<W: Write + Drop> Sink for Output<W> {
-    ghost written = { λ s. None };
-
-    ghost failures = { λ s. s.faults };
+    ghost state = { λ s. record { written = None; faults = s.faults } };
 
     fn faults(&self) -> u64 {
         self.faults

@@ -4,10 +4,11 @@ ghost use Rattle.fmb_host.specs.Host.{AreSmall};
 use crate::file::FileText;
 use crate::output::Output;
 use avl_values::Failed;
-use fmb_host::{Counts, Host, Source};
+use fmb_host::{Counts, Host};
 use std::fs;
 use std::io::Write;
 use std::rt::Files;
+use text_streams::Source;
 use trial_model::Outcome;
 
 /// The host of the program: texts are files, and the sink is standard output.
@@ -43,7 +44,7 @@ impl<F: Files + Drop, W: Write + Drop> Host for System<F, W> {
 
     type Out = Output<W>;
 
-    ghost view = { λ h. record { counts = h.counts; kept = h.kept; sink = h.out; texts = None; texts_back = None } };
+    ghost view = { λ h. record { counts = h.counts; kept = h.kept; sink = record { written = None; faults = h.out.faults }; texts = None; returns = None } };
 
     ghost with_sink = { λ h other. record h { out = other } };
 

@@ -1,7 +1,8 @@
 use crate::file::FileText;
 use crate::output::Output;
 use crate::system::System;
-use fmb_host::{Counts, Host, Sink, Source};
+use fmb_host::{Counts, Host};
+use text_streams::{Sink, Source};
 
 #[test]
 fn adapters_count_their_failures(rt: HostRuntime) {

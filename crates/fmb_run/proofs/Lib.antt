@@ -1,2 +1,4 @@
 pub mod ReadLemmas
 pub mod RunLemmas
+pub mod ShowLemmas
+pub mod TrialLemmas

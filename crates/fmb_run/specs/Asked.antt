@@ -1,6 +1,8 @@
--- What holds where the words ask for a command (this project's own).
-use Rattle.std.specs.Prelude.{ℕ, List, Option, None, Some, ⊤}
+-- What holds where the words ask for a command, or for none (this project's own).
+use Rattle.std.specs.Prelude.{◌≡◌, ◌⊎◌, ℕ, List, Option, None, Some, ⊤, codes}
+use Rattle.fmb_host.specs.Host.{HostView}
 use Rattle.fmb_words.specs.Values.{WordsValue, show, trial}
+use Rattle.fmb_run.specs.Printed.{Prints}
 
 -- the words ask to show a file, and this holds of its name
 abbrev pub IfShow : Option WordsValue → (List ℕ → Type 0) → Type 0
@@ -13,3 +15,16 @@ abbrev pub IfTrial : Option WordsValue → (List ℕ → Type 0) → Type 0
 IfTrial (Some (trial file)) P = P file
 IfTrial (Some (show file)) P = ⊤
 IfTrial None P = ⊤
+
+-- Memory ran out while the words were read: 9, with its line printed, and nothing else was done.
+pub record RanOut (status : ℕ) (before after : HostView) : Type 0 where
+  pub is : status ≡ 9
+  pub line : Prints (codes "no memory\n") before after
+  pub others : after ≡ record before { sink = after.sink }
+
+-- The words ask for nothing: 2, or 9 where memory ran out while they were read, with its line printed, and nothing else was done.
+pub record RefusesWords (status : ℕ) (before after : HostView) : Type 0 where
+  pub among : (status ≡ 2) ⊎ (status ≡ 9)
+  pub refused : status ≡ 2 → Prints (codes "refused words\n") before after
+  pub no_memory : status ≡ 9 → Prints (codes "no memory\n") before after
+  pub others : after ≡ record before { sink = after.sink }

@@ -1,4 +1,5 @@
 pub mod Asked
 pub mod Printed
+pub mod Show
 pub mod Text
 pub mod Trial

@@ -1,31 +1,28 @@
--- What is written of a text where a sink may fail (this project's own).
-use Rattle.std.specs.Prelude.{◌≡◌, ℕ, List, ◌++◌, take, Option, codes}
-use Rattle.std.specs.Io.KnownBytes.{Appends}
-use Rattle.avl_values.specs.Causes.{Rose}
+-- What is written on a host's sink (this project's own).
+use Rattle.std.specs.Prelude.{ℕ, List, ◌++◌, codes}
+use Rattle.text_streams.specs.Writes as writes
 use Rattle.fmb_host.specs.Host.{HostView}
-use Rattle.fmb_host.specs.Writes.{AppendsFront, PrintsLine}
 
--- the front of a text, and then the line that memory ran out
-abbrev pub front_and_line : ℕ → List ℕ → List ℕ
-front_and_line n text = take n text ++ codes "no memory\n"
+-- the line that memory ran out, after the front of a text
+abbrev pub and_no_memory : List ℕ → List ℕ
+and_no_memory front = front ++ codes "no memory\n"
 
-module _ {Text Out : Type 0} (written : Out → Option (List ℕ)) (failures : Out → ℕ) where
-  -- a host's sink was given a line
-  abbrev pub Prints : List ℕ → HostView Text Out → HostView Text Out → Type 0
-  Prints line before after = PrintsLine line (written before.sink) (written after.sink) (failures before.sink) (failures after.sink)
+-- the host's sink was given a line
+abbrev pub Prints : List ℕ → HostView → HostView → Type 0
+Prints line before after = writes.Prints line before.sink after.sink
 
-  -- a host's sink was given a whole text
-  abbrev pub PrintsWhole : List ℕ → HostView Text Out → HostView Text Out → Type 0
-  PrintsWhole text before after = Appends (written before.sink) (written after.sink) text
+-- the host's sink was given a whole text
+abbrev pub PrintsWhole : List ℕ → HostView → HostView → Type 0
+PrintsWhole text before after = writes.PrintsWhole text before.sink after.sink
 
-  -- a host's sink was given the front of a text
-  abbrev pub PrintsFront : List ℕ → HostView Text Out → HostView Text Out → Type 0
-  PrintsFront text before after = AppendsFront (written before.sink) (written after.sink) text
+-- the host's sink was given the front of a text
+abbrev pub PrintsFront : List ℕ → HostView → HostView → Type 0
+PrintsFront text before after = writes.PrintsFront text before.sink after.sink
 
-  -- a host's sink has not failed
-  abbrev pub SinkSteady : HostView Text Out → HostView Text Out → Type 0
-  SinkSteady before after = failures after.sink ≡ failures before.sink
+-- the host's sink has not failed
+abbrev pub SinkSteady : HostView → HostView → Type 0
+SinkSteady before after = writes.IsSteady before.sink after.sink
 
-  -- a host's sink has failed
-  abbrev pub SinkFailed : HostView Text Out → HostView Text Out → Type 0
-  SinkFailed before after = Rose (failures before.sink) (failures after.sink)
+-- the host's sink has failed
+abbrev pub SinkFailed : HostView → HostView → Type 0
+SinkFailed before after = writes.HasFailed before.sink after.sink

@@ -1,7 +1,8 @@
 -- The text that is read from a source, or from a host (this project's own).
-use Rattle.std.specs.Prelude.{◌≡◌, ◌<◌, ◌^◌, ◌⊎◌, ℕ, List, ◌∷◌, Option, None, Some, IfSome, ⊤, length}
+use Rattle.std.specs.Prelude.{◌≡◌, ◌<◌, ◌^◌, ◌⊎◌, ℕ, List, ◌∷◌, [], ◌++◌, Option, None, Some, IfSome, ⊤, length}
 use Rattle.std.specs.Io.{StartsWith}
-use Rattle.fmb_host.specs.Host.{HostView, LosesFirst, GainsLast}
+use Rattle.text_streams.specs.States.{SourceState}
+use Rattle.fmb_host.specs.Host.{HostView, LosesFirst, Returns}
 use Rattle.trial_bench.specs.PlainScript.{script_of}
 
 -- where a source tells what it has left, it is this text
@@ -18,39 +19,44 @@ IsReadOf None text = ⊤
 IsReadOf (Some whole) text = (text ≡ whole) ⊎ ((2 ^ 24 < length text) × StartsWith whole text)
 
 -- the host tells that the text which it will hand out next is this one
-pub record HasNext {Text Out : Type 0} (left : Text → Option (List ℕ)) (text : List ℕ) (host : HostView Text Out) : Type 0 where
-  pub source : Text
-  pub later : List Text
+pub record HasNext (text : List ℕ) (host : HostView) : Type 0 where
+  pub source : SourceState
+  pub later : List SourceState
   pub texts : host.texts ≡ Some (source ∷ later)
-  pub told : left source ≡ Some text
+  pub told : source.left ≡ Some text
 
-module _ {Text Out : Type 0} (left name : Text → Option (List ℕ)) where
-  -- a text was opened under a name: the host's next one where it tells them, and named so where it tells its name, with
-  -- these bytes where it tells them
-  pub record IsOpened (word text : List ℕ) (before after : HostView Text Out) : Type 0 where
-    pub source : Text
-    pub next : LosesFirst before.texts source after.texts
-    pub named : IfSome (name source) (λ told. told ≡ word)
-    pub bytes : IsTextOf (left source) text
+-- a text was opened under a name: the host's next one where it tells them, and named so where it tells its name, with
+-- these bytes where it tells them
+pub record IsOpened (word text : List ℕ) (before after : HostView) : Type 0 where
+  pub source : SourceState
+  pub next : LosesFirst before.texts source after.texts
+  pub named : IfSome source.name (λ told. told ≡ word)
+  pub bytes : IsTextOf source.left text
 
-  -- a text was opened under a name, and this holds of it
-  abbrev pub OfOpened : List ℕ → HostView Text Out → HostView Text Out → (List ℕ → Type 0) → Type 0
-  OfOpened word before after P = (text : List ℕ) × IsOpened word text before after × P text
+-- a text was opened under a name, and this holds of it
+abbrev pub OfOpened : List ℕ → HostView → HostView → (List ℕ → Type 0) → Type 0
+OfOpened word before after P = (text : List ℕ) × IsOpened word text before after × P text
 
-  -- A text was read: `text` is all its bytes, or those of its front that make it too long for a script, so that both are the
-  -- same script.
-  pub record ReadsText (word text : List ℕ) (before after : HostView Text Out) : Type 0 where
-    pub whole : List ℕ
-    pub opened : IsOpened word whole before after
-    pub same : script_of whole ≡ script_of text
+-- A text was read: `text` is all its bytes, or those of its front that make it too long for a script, so that both are the
+-- same script.
+pub record ReadsText (word text : List ℕ) (before after : HostView) : Type 0 where
+  pub whole : List ℕ
+  pub opened : IsOpened word whole before after
+  pub same : script_of whole ≡ script_of text
 
 -- no text was handed out, and none came back
-abbrev pub OpensNothing : {Text Out : Type 0} → HostView Text Out → HostView Text Out → Type 0
-OpensNothing before after = (after.texts ≡ before.texts) × (after.texts_back ≡ before.texts_back)
+abbrev pub OpensNothing : HostView → HostView → Type 0
+OpensNothing before after = (after.texts ≡ before.texts) × (after.returns ≡ before.returns)
 
--- a text was handed out, and one came back
-pub record IsReturned {Text Out : Type 0} (before after : HostView Text Out) : Type 0 where
-  pub source : Text
-  pub read : Text
+-- where it is told, this text came back last, and as many are handed out as before
+abbrev pub HasBack : Option Returns → SourceState → Option Returns → Type 0
+HasBack None text after = after ≡ None
+HasBack (Some r) text after = after ≡ Some (record r { texts = r.texts ++ text ∷ [] })
+
+-- A text was handed out, and it came back as this holds of it.
+pub record IsReturned (P : SourceState → Type 0) (before after : HostView) : Type 0 where
+  pub source : SourceState
+  pub read : SourceState
   pub next : LosesFirst before.texts source after.texts
-  pub last : GainsLast before.texts_back read after.texts_back
+  pub last : HasBack before.returns read after.returns
+  pub holds : P read

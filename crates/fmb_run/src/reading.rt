@@ -1,11 +1,12 @@
-ghost use Rattle.std.specs.Prelude.{◌≡◌, ◌≢◌, ◌<◌, IfOk, Err, length};
+ghost use Rattle.std.specs.Prelude.{◌≡◌, ◌≢◌, ◌⊎◌, ◌<◌, ◌^◌, IfOk, Err, length};
+ghost use Rattle.std.specs.Io.KnownBytes.{IsAtEnd};
 ghost use Rattle.avl_values.specs.Causes.{Rose};
 ghost use Rattle.fmb_run.specs.Text.{IsReadOf};
 
 use avl_values::{Failed, NoMemory};
-use fmb_host::Source;
 use std::alloc::Global;
 use text_lines::LONGEST;
+use text_streams::Source;
 
 /// How many bytes are asked for at a time.
 const PIECE: usize = 65_536;
@@ -20,9 +21,10 @@ pub(crate) enum Unread {
 
 /// Reads a source to its end, or until there are more bytes than a script or a capture may have; then the first 2^24 + 1 are kept.
 pub(crate) fn read_text<S: Source>(alloc: Global, source: &mut S) -> Result<Vec<u8>, Unread>
-    ensures text { IfOk result (λ text. IsReadOf (S.left source.old) text.items) }
-    ensures failed { result ≡ Err Unread.Failed → Rose (S.failures source.old) (S.failures source.new) }
-    ensures passed { result ≢ Err Unread.Failed → S.failures source.new ≡ S.failures source.old }
+    ensures text { IfOk result (λ text. IsReadOf (S.state source.old).left text.items) }
+    ensures end { IfOk result (λ text. IsAtEnd (S.state source.new).left ⊎ (2 ^ 24 < length text.items)) }
+    ensures failed { result ≡ Err Unread.Failed → Rose (S.state source.old).faults (S.state source.new).faults }
+    ensures passed { result ≢ Err Unread.Failed → (S.state source.new).faults ≡ (S.state source.old).faults }
 {
     let Ok(mut piece) = vec![in alloc; 0u8; PIECE] else {
         return Err(Unread::NoMemory);
@@ -36,9 +38,10 @@ fn read_pieces<S: Source>(
     piece: &mut [u8],
 ) -> Result<Vec<u8>, Unread>
     requires { 0 < length piece.old }
-    ensures text { IfOk result (λ text. IsReadOf (S.left source.old) text.items) }
-    ensures failed { result ≡ Err Unread.Failed → Rose (S.failures source.old) (S.failures source.new) }
-    ensures passed { result ≢ Err Unread.Failed → S.failures source.new ≡ S.failures source.old }
+    ensures text { IfOk result (λ text. IsReadOf (S.state source.old).left text.items) }
+    ensures end { IfOk result (λ text. IsAtEnd (S.state source.new).left ⊎ (2 ^ 24 < length text.items)) }
+    ensures failed { result ≡ Err Unread.Failed → Rose (S.state source.old).faults (S.state source.new).faults }
+    ensures passed { result ≢ Err Unread.Failed → (S.state source.new).faults ≡ (S.state source.old).faults }
 {
     let mut text = Vec::new(alloc);
     'pieces: loop {

@@ -3,8 +3,9 @@ ghost use Rattle.fmb_host.specs.Host.{AreSmall};
 
 use crate::{run, run_trial};
 use avl_values::NoMemory;
-use fmb_host::{Host, MemoryHost, MemorySink, MemorySource};
+use fmb_host::{Host, MemoryHost};
 use std::alloc::Global;
+use text_streams::{MemorySink, MemorySource};
 use trial_model::{DeviceEnd, Outcome, ServerEnd};
 
 fn first_round() -> &'static str {

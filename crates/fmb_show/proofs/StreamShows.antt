@@ -5,7 +5,7 @@ use Rattle.avl_values.specs.declared.fault.Fault.{Fault}
 use Rattle.layout.specs.Rows.{Rows}
 use Rattle.item_streams.specs.Readers.{Begin, Decided, GoesOn, Pushed, ReadTo, Reader, added, broken, fresh, item, more}
 use Rattle.item_streams.specs.Streams.{Item, reading_of}
-use Rattle.item_streams.proofs.ReaderSteps.{pushed_slice, read_first, reads_all, reads_broken, reads_on}
+use Rattle.item_streams.proofs.Exports.{pushed_slice, read_first, reads_all, reads_broken, reads_on}
 use Rattle.show_lines.specs.ItemTexts.{fault_text}
 use Rattle.show_lines.specs.Json.{as_line}
 use Rattle.fmb_show.specs.Shown.{Print, reading_print, short_print}

@@ -1,9 +1,9 @@
 -- The lines that are printed of an item (this project's own).
-use Rattle.std.specs.Prelude.{ℕ, List, [], ◌++◌, length}
+use Rattle.std.specs.Prelude.{ℕ, List, [], ◌++◌, length, Option, Some, None}
 use Rattle.layout.specs.Rows.{Verdict, whole, short, fault}
 use Rattle.command_layout.specs.declared.way.Way.{Way}
 use Rattle.command_layout.specs.declared.way.Way.TheVariants as way
-use Rattle.command_layout.specs.CommandRows.{command_verdict}
+use Rattle.command_layout.specs.Answers.{value_in}
 use Rattle.command_layout.specs.Values.{CommandValue}
 use Rattle.frame_layout.specs.Values.{UpValue, login, packet, response, DownValue, answer, count, order}
 use Rattle.datagrams.specs.Values.{DatagramValue, ReplyValue}
@@ -14,13 +14,12 @@ use Rattle.show_lines.specs.Json.{as_line}
 use Rattle.show_lines.specs.PacketLines.{packet_lines}
 
 -- a command's line, by what its body says
-abbrev pub value_line : Verdict CommandValue → ℕ → List ℕ
-value_line (whole value n) line = as_line (command_text value line)
-value_line short line = []
-value_line (fault kind place) line = []
+abbrev pub value_line : Option CommandValue → ℕ → List ℕ
+value_line (Some value) line = as_line (command_text value line)
+value_line None line = []
 
 abbrev pub command_line : Way → List ℕ → ℕ → List ℕ
-command_line way body line = value_line (command_verdict way (length body) body) line
+command_line way body line = value_line (value_in way body) line
 
 abbrev pub up_lines : UpValue → ℕ → List ℕ
 up_lines (login imei) line = as_line (login_text imei line)

@@ -1,18 +1,19 @@
--- What becomes of a capture that is printed where the sink may fail and memory may be wanting (this project's own).
-use Rattle.std.specs.Prelude.{◌≡◌, ℕ, List, ◌++◌, take, Option, true, false, codes}
-use Rattle.std.specs.Io.KnownBytes.{Appends}
-use Rattle.avl_values.specs.Causes.{Rose}
-use Rattle.fmb_host.specs.Writes.{AppendsFront, PrintsLine}
-use Rattle.fmb_show.specs.Shown.{Print}
+-- What becomes of a capture that is printed where the sink may fail and memory may run out (this project's own).
+use Rattle.std.specs.Prelude.{◌≡◌, ℕ, List, ◌++◌, Result, true, false, codes}
+use Rattle.text_streams.specs.States.{SinkState}
+use Rattle.text_streams.specs.Writes.{HasFailed, IsSteady, Prints, PrintsFront, PrintsWhole}
+use Rattle.capture_text.specs.Capture.{LineValue}
+use Rattle.capture_text.specs.declared.fault.CaptureRefusal.{CaptureRefusal}
+use Rattle.fmb_show.specs.Shown.{capture_print, front_print}
 use Rattle.fmb_show.specs.declared.capture.ShowEnd.{ShowEnd}
 use Rattle.fmb_show.specs.declared.capture.ShowEnd.TheVariants.{Done, Fault, SinkFault, NoMemory}
 
--- By what is to be printed and the end: the sink's bytes and its count of failures, before and after. A fault that ends the print
--- decides before the sink.
-pub record Showed (print : Print) (end : ShowEnd) (before after : Option (List ℕ)) (failures failures' : ℕ) : Type 0 where
-  pub done : end ≡ Done → (print.faulty ≡ false) × Appends before after print.text
-  pub sink_steady : end ≡ Done → failures' ≡ failures
-  pub fault : end ≡ Fault → (print.faulty ≡ true) × PrintsLine print.text before after failures failures'
-  pub sink_fault : end ≡ SinkFault → (print.faulty ≡ false) × AppendsFront before after print.text
-  pub sink_cause : end ≡ SinkFault → Rose failures failures'
-  pub no_memory : end ≡ NoMemory → (n : ℕ) × PrintsLine (take n print.text ++ codes "no memory\n") before after failures failures'
+-- By the capture, or why the text is none, and the end: the sink before and after. A fault that ends the print decides before
+-- the sink. Where memory ran out, what stands before the line that says so is what is shown of some first lines, each whole.
+pub record Showed (capture : Result (List LineValue) CaptureRefusal) (end : ShowEnd) (before after : SinkState) : Type 0 where
+  pub done : end ≡ Done → ((capture_print capture).faulty ≡ false) × PrintsWhole (capture_print capture).text before after
+  pub sink_steady : end ≡ Done → IsSteady before after
+  pub fault : end ≡ Fault → ((capture_print capture).faulty ≡ true) × Prints (capture_print capture).text before after
+  pub sink_fault : end ≡ SinkFault → ((capture_print capture).faulty ≡ false) × PrintsFront (capture_print capture).text before after
+  pub sink_cause : end ≡ SinkFault → HasFailed before after
+  pub no_memory : end ≡ NoMemory → (k : ℕ) × Prints (front_print k capture ++ codes "no memory\n") before after

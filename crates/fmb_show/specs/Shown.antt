@@ -1,11 +1,11 @@
 -- What `show` prints of a capture: of each of its lines the items in order, up to the first fault, whose line is the last (this
 -- project's own).
-use Rattle.std.specs.Prelude.{ℕ, List, [], ◌∷◌, ◌++◌, length, Bool, true, false, Result, Ok, Err, if◌then◌else◌}
+use Rattle.std.specs.Prelude.{ℕ, List, [], ◌∷◌, ◌++◌, length, take, Bool, true, false, Result, Ok, Err, if◌then◌else◌}
 use Rattle.std.specs.List.{flat_map}
 use Rattle.avl_values.specs.declared.fault.FaultKind.{FaultKind}
 use Rattle.layout.specs.Rows.{Rows, Verdict, whole, short, fault, judge}
 use Rattle.item_streams.specs.Streams.{Reading, next_rows}
-use Rattle.fmb_text.specs.Refused.{refused_line}
+use Rattle.text_streams.specs.Refused.{refused_line}
 use Rattle.capture_text.specs.Capture.{LineValue, capture_of, fault_name}
 use Rattle.capture_text.specs.declared.fault.CaptureRefusal.{CaptureRefusal}
 use Rattle.capture_text.specs.declared.word.CaptureWord.{CaptureWord}
@@ -98,6 +98,15 @@ abbrev pub capture_print : Result (List LineValue) CaptureRefusal → Print
 capture_print (Ok lines) = lines_print lines
 capture_print (Err refusal) = ended_by_fault (refused_line refusal.line (fault_name refusal.fault))
 
+-- what is printed of the first k lines of a capture; of a text that is refused, nothing
+abbrev pub front_print : ℕ → Result (List LineValue) CaptureRefusal → List ℕ
+front_print k (Ok lines) = (lines_print (take k lines)).text
+front_print k (Err refusal) = []
+
 -- what is printed of a text as a capture
 abbrev pub shown : List ℕ → Print
 shown text = capture_print (capture_of text)
+
+-- what is printed of its first k lines
+abbrev pub shown_front : ℕ → List ℕ → List ℕ
+shown_front k text = front_print k (capture_of text)

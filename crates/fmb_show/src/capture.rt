@@ -2,18 +2,19 @@
 ghost use Rattle.std.specs.Prelude.{◌≡◌, IfOk};
 ghost use Rattle.fmb_show.specs.Printing.{HasPrinted};
 ghost use Rattle.fmb_show.specs.Showed.{Showed};
-ghost use Rattle.fmb_show.specs.Shown.{and_then, capture_print, line_print, lines_print, only, shown};
-ghost use Rattle.std.specs.Prelude.{ℕ, List, Option, Err, ◌++◌, codes};
-ghost use Rattle.fmb_host.specs.Writes.{PrintsLine};
+ghost use Rattle.fmb_show.specs.Shown.{line_print};
+ghost use Rattle.capture_text.specs.Capture.{capture_of};
+ghost use Rattle.std.specs.Prelude.{List, ℕ, Ok, Err, ◌++◌, codes};
+ghost use Rattle.text_streams.specs.States.{SinkState};
+ghost use Rattle.text_streams.specs.Writes.{Prints};
 
 use crate::line::push_bytes;
 use crate::printing::print;
 use avl_values::NoMemory;
 use capture_text::{Capture, CaptureLine, CaptureRefusal};
-use fmb_host::Sink;
-use fmb_text::refused_text;
 use frame_channel::Up;
 use std::alloc::Global;
+use text_streams::{Sink, refused_text};
 
 /// How the printing of a capture ended.
 #[derive(Clone, Copy, Debug, PartialEq, Eq)]
@@ -24,16 +25,15 @@ pub enum ShowEnd {
     Fault,
     /// There is no fault, and the sink failed.
     SinkFault,
-    /// Memory was refused. What was printed is the front of what would have been, and a line that says so.
+    /// Memory was refused. What was printed is what is shown of some first lines, and a line that says so.
     NoMemory,
 }
 
-/// Says that memory ran out, behind what was printed.
+/// Says that memory ran out, after what was printed.
 fn give_up<K: Sink>(sink: &mut K, failed: bool) -> ShowEnd
     ensures end { result ≡ ShowEnd.NoMemory }
-    ensures line { (start : Option (List ℕ)) → (count : ℕ) → (printed : List ℕ)
-        → HasPrinted start (K.written sink.old) count (K.failures sink.old) failed printed
-        → PrintsLine (printed ++ codes "no memory\n") start (K.written sink.new) count (K.failures sink.new) }
+    ensures line { (start : SinkState) → (printed : List ℕ) → HasPrinted start (K.state sink.old) failed printed
+        → Prints (printed ++ codes "no memory\n") start (K.state sink.new) }
 {
     print(sink, failed, b"no memory\n");
     ShowEnd::NoMemory
@@ -41,7 +41,7 @@ fn give_up<K: Sink>(sink: &mut K, failed: bool) -> ShowEnd
 
 /// Prints why a text is refused.
 fn refuse<K: Sink>(alloc: Global, refusal: CaptureRefusal, sink: &mut K) -> ShowEnd
-    ensures { Showed (capture_print (Err refusal)) result (K.written sink.old) (K.written sink.new) (K.failures sink.old) (K.failures sink.new) }
+    ensures { Showed (Err refusal) result (K.state sink.old) (K.state sink.new) }
 {
     let Ok(line) = refused_text(alloc, refusal.line, refusal.fault.name()) else {
         return give_up(sink, false);
@@ -67,7 +67,7 @@ fn line_text(
 
 /// Prints the lines of a capture that are left.
 fn show_lines<K: Sink>(alloc: Global, capture: Capture<'_>, sink: &mut K) -> ShowEnd
-    ensures { Showed (lines_print capture.entry) result (K.written sink.old) (K.written sink.new) (K.failures sink.old) (K.failures sink.new) }
+    ensures { Showed (Ok capture.entry) result (K.state sink.old) (K.state sink.new) }
 {
     let Ok(mut up) = Up::frames(alloc) else {
         return give_up(sink, false);
@@ -94,7 +94,7 @@ fn show_lines<K: Sink>(alloc: Global, capture: Capture<'_>, sink: &mut K) -> Sho
 /// Prints the lines of a capture, and of a refused text the line that says why. The text is judged whole before anything is
 /// printed; then each line's bytes are read once.
 pub fn show_capture<K: Sink>(alloc: Global, text: &[u8], sink: &mut K) -> ShowEnd
-    ensures { Showed (shown text.now) result (K.written sink.old) (K.written sink.new) (K.failures sink.old) (K.failures sink.new) }
+    ensures { Showed (capture_of text.now) result (K.state sink.old) (K.state sink.new) }
 {
     match Capture::new(text) {
         Ok(capture) => show_lines(alloc, capture, sink),

@@ -2,7 +2,6 @@
 ghost use Rattle.std.specs.Prelude.{◌≡◌, ◌≤◌, ◌^◌, ◌++◌, IfOk, OnOk, length};
 ghost use Rattle.datagrams.specs.DatagramRows.{datagram_verdict, reply_verdict};
 ghost use Rattle.datagrams.specs.Views.{value_of};
-ghost use Rattle.layout.specs.Bytes.{AreBytes};
 ghost use Rattle.fmb_show.specs.ItemLines.{datagram_lines};
 ghost use Rattle.fmb_show.specs.Shown.{datagram_print, fault_print, reply_print};
 
@@ -13,8 +12,7 @@ use show_lines::{Item, push_line, push_packet_lines};
 
 /// Appends the lines of a datagram that was read.
 fn push_read(out: &mut Vec<u8>, datagram: &Datagram<'_>, line: u32) -> Result<(), NoMemory>
-    requires few { length datagram.now.body.now ≤ 2 ^ 31 }
-    requires are_bytes { AreBytes datagram.now.body.now }
+    requires { length datagram.now.body.now ≤ 2 ^ 31 }
     ensures { OnOk result (out.new.items ≡ out.old.items ++ datagram_lines (value_of datagram.now) line) }
 {
     push_line(

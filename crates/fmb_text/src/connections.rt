@@ -2,8 +2,8 @@ ghost use Rattle.std.specs.Prelude.{◌≡◌, ◌++◌, OnOk};
 ghost use Rattle.fmb_text.specs.Report.{connection_line, way_words};
 
 use crate::ends::{push_device_end, push_server_end};
-use crate::pieces::{push, push_decimal, push_imei};
 use avl_values::NoMemory;
+use text_streams::{push, push_decimal, push_imei};
 use trial_model::ConnectionOutcome;
 
 #[tactic(auto, unfolding(crate::specs::Report::way_words))]

@@ -4,9 +4,9 @@ ghost use Rattle.avl_values.specs.Viewed.{record_of, records_of};
 ghost use Rattle.fmb_text.specs.Report.{count_words, device_line, device_text, record_line, record_lines};
 
 use crate::ends::word_of;
-use crate::pieces::{push, push_decimal, push_imei};
 use avl_values::{Codec, Imei, NoMemory, Rec, WideRec};
 use std::alloc::Global;
+use text_streams::{push, push_decimal, push_imei};
 use trial_model::DeviceOutcome;
 
 #[tactic(auto, unfolding(crate::specs::Report::count_words))]

@@ -1,8 +1,8 @@
 ghost use Rattle.std.specs.Prelude.{◌≡◌, ◌++◌, OnOk};
 ghost use Rattle.fmb_text.specs.Ends.{codec_word, device_end_words, server_end_words};
 
-use crate::pieces::{push, push_decimal};
 use avl_values::{Codec, Fault, NoMemory};
+use text_streams::{push, push_decimal};
 use trial_model::{DeviceEnd, ServerEnd};
 
 /// `8`, `8E` or `16`.

@@ -5,9 +5,6 @@
 mod connections;
 mod devices;
 mod ends;
-mod pieces;
-mod refused;
 mod report;
 
-pub use refused::refused_text;
 pub use report::report_text;

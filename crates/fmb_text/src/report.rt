@@ -3,9 +3,9 @@ ghost use Rattle.fmb_text.specs.Report.{report, full_report, brief_report};
 
 use crate::connections::push_connection;
 use crate::devices::{push_device, push_device_line};
-use crate::pieces::{push, push_decimal};
 use avl_values::NoMemory;
 use std::alloc::Global;
+use text_streams::{push, push_decimal};
 use trial_model::Outcome;
 
 fn push_full_report(alloc: Global, text: &mut Vec<u8>, outcome: &Outcome) -> Result<(), NoMemory>

@@ -9,11 +9,10 @@ use Rattle.layout.specs.Bytes.{AreBytes}
 use Rattle.layout.proofs.Numbers.{bytes-drop, bytes-take}
 use Rattle.layout.proofs.RowLaws.{filled}
 use Rattle.record_layout.specs.declared.head.PacketHead.{PacketHead}
-use Rattle.record_layout.specs.PacketRows.{packet_verdict}
 use Rattle.frame_layout.specs.Items.{frame_of}
 use Rattle.frame_layout.specs.UpRows.{up_rows, up_verdict}
 use Rattle.frame_layout.specs.Values.{UpValue, packet}
-use Rattle.record_layout.proofs.BodyLaws.{judged_body}
+use Rattle.record_layout.specs.Body.{IsBody}
 use Rattle.frame_layout.proofs.UpLaws.{up_stays, up_whole}
 use Rattle.frame_channel.specs.DataFrames.{BeginsWith, BeginsWithBody, IsNext}
 use Rattle.item_streams.specs.Readers.{Reader, item}
@@ -41,8 +40,8 @@ frame_long : (body : List ℕ) → length (frame_of body) ≡ 12 + length body
 frame_long body = omega (arith, length-append (to_be_bytes w32 (length body)) (body ++ 0 ∷ 0 ∷ to_be_bytes w16 (crc_of body)), length-append body (0 ∷ 0 ∷ to_be_bytes w16 (crc_of body)))
 
 pub frame_stands : (head : PacketHead) (body behind bytes more : List ℕ) → BeginsWithBody body behind bytes → behind ≡ 0 ∷ 0 ∷ (to_be_bytes w16 (crc_of body) ++ more)
-    → packet_verdict (length body) body ≡ whole head (length body) → BeginsWith head body bytes
-frame_stands head body behind bytes more b ends judged =
+    → IsBody head body → BeginsWith head body bytes
+frame_stands head body behind bytes more b ends accepted =
     let sum = to_be_bytes w16 (crc_of body) in
     let size = to_be_bytes w32 (length body) in
     let back : body ++ behind ≡ (body ++ 0 ∷ 0 ∷ sum) ++ more = ap (λ t. body ++ t) ends ∙ sym (append_assoc body (0 ∷ 0 ∷ sum) more) in
@@ -53,7 +52,7 @@ frame_stands head body behind bytes more b ends judged =
       fits = omega (arith, ap length all, length-append (frame_of body) more);
       is = record {
         is = ap (λ k. take k bytes) (sym n) ∙ ap (take (length (frame_of body))) all ∙ take-append_seam (frame_of body) more;
-        of_body = judged_body head body b.are_bytes judged;
+        of_body = accepted;
         fits = b.few;
         are_bytes = b.are_bytes;
       };

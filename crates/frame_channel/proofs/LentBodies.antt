@@ -3,7 +3,7 @@ use Rattle.std.proofs.Common.{◌≡◌, refl, ℕ, List, ◌++◌, take}
 use Rattle.layout.specs.Bytes.{AreBytes}
 use Rattle.layout.proofs.Numbers.{bytes-append, bytes-take}
 use Rattle.frame_layout.specs.Values.{order, packet, response}
-use Rattle.frame_layout.proofs.PlaceLaws.{down_said, up_said}
+use Rattle.frame_layout.proofs.Exports.{down_item_is_said, up_item_is_said}
 use Rattle.item_streams.specs.Readers.{Reader, more}
 use Rattle.frame_channel.specs.DataFrames.{IsNext}
 use Rattle.frame_channel.specs.DownPushes.{IsLentDown, PushedDown, decided_down}
@@ -18,9 +18,9 @@ pub up_lent : (old new : Reader) (piece : List ℕ) (n : ℕ) (item : UpItem) �
 up_lent old new piece n up_item.More have bytes p = tt
 up_lent old new piece n (up_item.Login imei) have bytes p = tt
 up_lent old new piece n (up_item.Packet head) have bytes p =
-    up_said old.after_first (packet head new.body) _ (old.have ++ take n piece) (bytes-append old.have (take n piece) have (bytes-take n piece bytes)) p.verdict
+    up_item_is_said old.after_first (packet head new.body) _ (old.have ++ take n piece) (bytes-append old.have (take n piece) have (bytes-take n piece bytes)) p.verdict
 up_lent old new piece n up_item.Response have bytes p =
-    up_said old.after_first (response new.body) _ (old.have ++ take n piece) (bytes-append old.have (take n piece) have (bytes-take n piece bytes)) p.verdict
+    up_item_is_said old.after_first (response new.body) _ (old.have ++ take n piece) (bytes-append old.have (take n piece) have (bytes-take n piece bytes)) p.verdict
 up_lent old new piece n (up_item.Broken found) have bytes p = tt
 
 pub down_lent : (old new : Reader) (piece : List ℕ) (n : ℕ) (item : DownItem) → AreBytes old.have → AreBytes piece → PushedDown old new piece n item → IsLentDown item new.body
@@ -28,7 +28,7 @@ down_lent old new piece n down_item.More have bytes p = tt
 down_lent old new piece n (down_item.Login k) have bytes p = tt
 down_lent old new piece n (down_item.Count k) have bytes p = tt
 down_lent old new piece n down_item.Order have bytes p =
-    down_said old.after_first (order new.body) _ (old.have ++ take n piece) (bytes-append old.have (take n piece) have (bytes-take n piece bytes)) p.verdict
+    down_item_is_said old.after_first (order new.body) _ (old.have ++ take n piece) (bytes-append old.have (take n piece) have (bytes-take n piece bytes)) p.verdict
 down_lent old new piece n (down_item.Broken found) have bytes p = tt
 
 -- an answer that decides

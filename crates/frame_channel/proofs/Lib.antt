@@ -1,3 +1,4 @@
+pub mod BodyPlaces
 pub mod BodySteps
 pub mod BodyTakes
 pub mod DataFrames

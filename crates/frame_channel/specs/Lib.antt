@@ -1,6 +1,8 @@
 pub mod Bodies
 pub mod BodyIn
+pub mod BodyLaws
 pub mod BodyMachines
+pub mod BodyPlaces
 pub mod DataFrames
 pub mod DownBuffers
 pub mod DownMachines

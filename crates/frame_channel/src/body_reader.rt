@@ -3,7 +3,7 @@ ghost use Rattle.std.specs.Prelude.{◌≡◌, ◌<◌, ◌+◌, ℕ, List, [], 
 ghost use Rattle.crc_field.specs.Crc.{crc_of};
 ghost use Rattle.frame_channel.specs.BodyMachines.{HasTaken};
 
-use crate::body_machine::{BodyMachine, BodyScan};
+use crate::body_place::{BodyMachine, BodyPlace, BodyScan};
 use avl_values::Fault;
 use command_layout::Way;
 use crc_field::Running;
@@ -48,7 +48,7 @@ impl BodyReader {
         BodyReader {
             start,
             total,
-            machine: BodyMachine::new(total, way),
+            machine: BodyMachine::new(total, BodyPlace::Codec(way, total)),
             crc: Running::new(),
         }
     }

@@ -3,7 +3,7 @@
 //! the same byte however the stream is cut.
 #![tactic(auto)]
 
-mod body_machine;
+mod body_place;
 mod body_reader;
 mod data_frame;
 mod down;

@@ -10,7 +10,7 @@ use Rattle.layout.specs.Fields.{number}
 use Rattle.layout.specs.Next.{width_of, rule_of}
 use Rattle.layout.specs.Rows.{Fills}
 use Rattle.layout.proofs.Following.{follow_rule, follow_width}
-use Rattle.layout.proofs.EitherLaws.{either_take, first_fills, others_fill}
+use Rattle.layout.proofs.EitherLaws.{either_take, either_width, first_fills, others_fill}
 use Rattle.layout.proofs.MappedLaws.{map_fill, map_take}
 use Rattle.layout.specs.Rows.{done}
 use Rattle.layout.specs.MappedRows.{map_value}
@@ -55,6 +55,10 @@ data_width = follow_width packet_rows (λ head. done (Packet head)) 1 packet_wid
 
 pub order_width : (way : Way) (total : ℕ) → width_of (command_body_rows way total) ≡ Some 1
 order_width way total = follow_width (command_rows way total) (λ _. done Command) 1 (command_width way total)
+
+pub kind_width : (way : Way) (total : ℕ) → width_of (body_kind_rows way total) ≡ Some 1
+kind_width Up total = either_width (map_value Packet packet_rows) (command_body_rows Up total) 1 data_width
+kind_width Down total = order_width Down total
 
 packet_rule : (field : List ℕ) → rule_of packet_rows field ≡ codec_rule (codec_of (number field))
 unfolding packet_rows

@@ -1,9 +1,9 @@
 pub mod Checksum
 pub mod DownLaws
 pub mod Examples
+pub mod Exports
 pub mod FrameFills
 pub mod KindFills
-pub mod KindVerdicts
 pub mod Lengths
 pub mod LoginFills
 pub mod PlaceLaws

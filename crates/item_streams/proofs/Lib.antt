@@ -1,4 +1,5 @@
 pub mod Ending
+pub mod Exports
 pub mod Joining
 pub mod ReaderSteps
 pub mod Reading

@@ -1,11 +1,10 @@
 -- What fills rows of which either may stand, and the verdicts on a body of them.
-use Rattle.std.proofs.Common.{◌≡◌, ℕ, ◌+◌, ◌-◌, ◌≤◌, ◌⊎◌, inl, inr, List, ◌++◌, length, take, drop, Option, Some, None, refl, sym, ap, subst, ◌∙◌}
+use Rattle.std.proofs.Common.{◌≡◌, ℕ, ◌⊎◌, inl, inr, List, ◌++◌, length, take, Option, Some, None, refl, sym, ap, subst, ◌∙◌}
 use Rattle.std.proofs.Math.Seq.{take-append_seam}
 use Rattle.avl_values.specs.declared.fault.FaultKind.{FaultKind}
 use Rattle.layout.specs.Next.{width_of, rule_of, rows_after}
-use Rattle.layout.specs.Rows.{Rows, done, refuse, row, judge, body, Fills}
+use Rattle.layout.specs.Rows.{Rows, done, refuse, row, Fills}
 use Rattle.layout.specs.EitherRows.{either_rest, either_rows, either_rule}
-use Rattle.layout.proofs.Stepping.{body_fault, body_on}
 
 -- The next field of some rows.
 
@@ -35,13 +34,13 @@ either_width (done v) others w e = absurd (cc)
 either_width (refuse kind) others w e = absurd (cc)
 either_width (row n rule rest) others w e = e
 
-either_rule_is : {V : Type 0} (rows others : Rows V) (w : ℕ) (field : List ℕ) → width_of rows ≡ Some w → rule_of (either_rows rows others) field ≡ either_rule (rule_of rows field) (rule_of others field)
+pub either_rule_is : {V : Type 0} (rows others : Rows V) (w : ℕ) (field : List ℕ) → width_of rows ≡ Some w → rule_of (either_rows rows others) field ≡ either_rule (rule_of rows field) (rule_of others field)
 unfolding either_rows
 either_rule_is (done v) others w field e = absurd (cc)
 either_rule_is (refuse kind) others w field e = absurd (cc)
 either_rule_is (row n rule rest) others w field e = refl
 
-either_rest_is : {V : Type 0} (rows others : Rows V) (w : ℕ) (field : List ℕ) → width_of rows ≡ Some w
+pub either_rest_is : {V : Type 0} (rows others : Rows V) (w : ℕ) (field : List ℕ) → width_of rows ≡ Some w
     → rows_after (either_rows rows others) field ≡ either_rest (rule_of rows field) (rows_after rows field) (rows_after others field)
 unfolding either_rows
 either_rest_is (done v) others w field e = absurd (cc)
@@ -78,29 +77,3 @@ either_take {V = V} rows others w v bytes e other fills =
     let (field, more, is, len, passes, behind) = first_take (either_rows rows others) w v bytes (either_width rows others w e) fills in
     either_by rows others w v bytes field more (rule_of rows field) e other is len refl (sym (either_rule_is rows others w field e) ∙ passes)
     (subst (λ (r : Rows V). Fills r v more) (either_rest_is rows others w field e) behind)
-
--- a body of either rows is judged as one of the first rows where its first field keeps their rule
-pub first_judged : {V : Type 0} (rows others : Rows V) (w room place : ℕ) (bytes : List ℕ) → width_of rows ≡ Some w → w ≤ room → w ≤ length bytes → rule_of rows (take w bytes) ≡ None
-    → judge (body room (either_rows rows others)) place bytes ≡ judge (body room rows) place bytes
-first_judged rows others w room place bytes e fits long passes =
-    let field = take w bytes in
-    body_on (either_rows rows others) w room place bytes (either_width rows others w e) fits long (either_rule_is rows others w field e ∙ ap (λ o. either_rule o (rule_of others field)) passes)
-    ∙ ap (λ r. judge (body (room - w) r) (place + w) (drop w bytes)) (either_rest_is rows others w field e ∙ ap (λ o. either_rest o (rows_after rows field) (rows_after others field)) passes)
-    ∙ sym (body_on rows w room place bytes e fits long passes)
-
-others_by : {V : Type 0} (rows others : Rows V) (w room place : ℕ) (kind : FaultKind) (bytes : List ℕ) (found : Option FaultKind) → width_of rows ≡ Some w → width_of others ≡ Some w → w ≤ room → w ≤ length bytes
-    → rule_of rows (take w bytes) ≡ Some kind → rule_of others (take w bytes) ≡ found → judge (body room (either_rows rows others)) place bytes ≡ judge (body room others) place bytes
-others_by rows others w room place kind bytes None e other fits long fails passes =
-    let field = take w bytes in
-    body_on (either_rows rows others) w room place bytes (either_width rows others w e) fits long (either_rule_is rows others w field e ∙ ap (λ o. either_rule o (rule_of others field)) fails ∙ passes)
-    ∙ ap (λ r. judge (body (room - w) r) (place + w) (drop w bytes)) (either_rest_is rows others w field e ∙ ap (λ o. either_rest o (rows_after rows field) (rows_after others field)) fails)
-    ∙ sym (body_on others w room place bytes other fits long passes)
-others_by rows others w room place kind bytes (Some k) e other fits long fails breaks =
-    let field = take w bytes in
-    body_fault (either_rows rows others) w room place k bytes (either_width rows others w e) fits long (either_rule_is rows others w field e ∙ ap (λ o. either_rule o (rule_of others field)) fails ∙ breaks)
-    ∙ sym (body_fault others w room place k bytes other fits long breaks)
-
--- and else as one of the others
-pub others_judged : {V : Type 0} (rows others : Rows V) (w room place : ℕ) (kind : FaultKind) (bytes : List ℕ) → width_of rows ≡ Some w → width_of others ≡ Some w → w ≤ room → w ≤ length bytes
-    → rule_of rows (take w bytes) ≡ Some kind → judge (body room (either_rows rows others)) place bytes ≡ judge (body room others) place bytes
-others_judged rows others w room place kind bytes e other fits long fails = others_by rows others w room place kind bytes (rule_of others (take w bytes)) e other fits long fails refl

@@ -2,6 +2,9 @@
 use Rattle.std.proofs.Common.{◌≡◌, ◌⊎◌, inl, inr, ℕ, ◌+◌, ◌-◌, ◌<◌, ◌≤◌, max, Bool, true, false, List, [], length, get_or, set, take, replicate, sym, ◌∙◌, ap, refl, subst, arith, length-take, length-set, get_or-set_same, get_or-set_other}
 use Rattle.std.proofs.lemmas.List.{length-replicate, ext_get_or, get_or-take, get_or-replicate, get_or_past}
 use Rattle.std.proofs.lemmas.Bool.{cases_lt, cases_eq}
+use Rattle.std.specs.Vec.{with_items}
+use Rattle.std.proofs.lemmas.List.{with_items_is}
+use Rattle.std.specs.declared.vec.Vec.{Vec}
 use Rattle.medium_model.specs.Content.{written}
 use Rattle.medium.specs.Buffer.{Buffer, DirtyMarks, HasMore, IsPadded, IsMarked, IsOutside, SetFrom}
 use Rattle.medium.specs.declared.spans.Span.{Span}
@@ -164,3 +167,12 @@ seen-copied other_len len mine other after was it other_padded view other_view f
     let other_fits : other_len ≤ length mine = omega (arith, ap length it_bytes, length-take other_len other, other_padded.within) in
     let bytes = take-copied 0 other_len mine other after size other_padded other_fits copied in
     (padded-copied 0 other_len mine other after size other_padded other_fits copied, cc)
+
+-- a buffer whose items were set as a slice
+pub set-in : {A Z : Type 0} → (d : A) (at n : ℕ) (f : ℕ → A) (v : Vec A Z) (slice after : List A) → slice ≡ v.items → SetFrom d at n f slice after
+    → SetFrom d at n f v.items (with_items v after).items
+set-in {A = A} d at n f v slice after is so =
+    let P : List A → Type 0 = λ before. SetFrom d at n f before after in
+    let Q : List A → Type 0 = λ items. SetFrom d at n f v.items items in
+    let set = subst P is so in
+    subst Q (sym (with_items_is v after (set.size ∙ sym v.ok.0))) set

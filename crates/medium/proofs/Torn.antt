@@ -4,9 +4,11 @@ use Rattle.std.proofs.lemmas.List.{length-replicate, get_or-replicate}
 use Rattle.medium_model.specs.Content.{Content, FailedWrite, after_write, written}
 use Rattle.medium_model.specs.PowerLoss.{IsImage}
 use Rattle.medium_model.specs.State.{TornWrite}
-use Rattle.medium.specs.Buffer.{Buffer, DirtyMarks, Held, IsTornImage, FitTogether, content_of}
+use Rattle.medium.specs.Buffer.{Buffer, DirtyMarks, ReadyContent, IsTornImage, FitTogether, content_of}
 use Rattle.medium.specs.Memory.{Tears, TearsHeld, IsBench, after_torn, torn_write}
+use Rattle.medium_model.specs.declared.bench.Tear.{Tear}
 use Rattle.medium_model.specs.declared.bench.Tear.TheVariants.{Half}
+use Rattle.medium.specs.declared.power.Power.{Power}
 use Rattle.medium.proofs.Buffers.{ahead, inside, past, place_of}
 use Rattle.medium_model.proofs.Written.{length-written, get_or-written_before, get_or-written_there, get_or-written_behind}
 
@@ -101,13 +103,14 @@ module _ (reads durable : Buffer) (dirty : DirtyMarks) (ready at n : ℕ)
   }
 
 -- A write that the bench's power loss did not reach, or one that it may have torn, keeps its images fitting.
-module _ (held new_held : Held) (images : TearsHeld) (at : ℕ) (bytes : List ℕ)
-    (bench : IsBench held images)
+module _ (held new_held : ReadyContent) (images : TearsHeld) (tear : Tear) (power : Power) (at : ℕ) (bytes : List ℕ)
+    (bench : IsBench held images tear power)
     (durable : new_held.content.durable ≡ held.content.durable)
     (dirty : new_held.content.dirty ≡ written false at (replicate (length bytes) true) held.content.dirty)
     (ready : new_held.ready ≡ held.ready) where
-  pub bench-spoiled : IsBench new_held images
+  pub bench-spoiled : IsBench new_held images tear power
   bench-spoiled = record {
+    unarmed = bench.unarmed;
     room = omega (arith, bench.room, ready);
     zero = torn-marked held.content new_held.content at (length bytes) _ bench.zero durable dirty;
     opened = torn-marked held.content new_held.content at (length bytes) _ bench.opened durable dirty;
@@ -123,12 +126,13 @@ module _ (held new_held : Held) (images : TearsHeld) (at : ℕ) (bytes : List �
         | false ↦ torn-written held.content new_held.content at (length bytes) image bench.half durable dirty (take (length bytes / 2) bytes) (omega (arith, length-take (length bytes / 2) bytes))
       ]
 
-  pub bench-written : (new_images : TearsHeld) → new_images.tears ≡ after_torn at bytes images.tears → new_images.room ≡ images.room → IsBench new_held new_images
+  pub bench-written : (new_images : TearsHeld) → new_images.tears ≡ after_torn at bytes images.tears → new_images.room ≡ images.room → IsBench new_held new_images tear power
   bench-written new_images torn room =
       let torn_by = λ (byte : ℕ) (image : List ℕ) (was : IsTornImage held.content image).
       torn-written held.content new_held.content at (length bytes) image was durable dirty (replicate (length bytes) byte) (omega (arith, length-replicate (length bytes) byte)) in
       let P : List ℕ → Type 0 = λ image. IsTornImage new_held.content image in
       record {
+        unarmed = bench.unarmed;
         room = omega (arith, bench.room, ready, room);
         zero = subst P (sym (ap (λ (t : Tears). t.zero) torn)) (torn_by 0 images.tears.zero bench.zero);
         opened = subst P (sym (ap (λ (t : Tears). t.opened) torn)) (torn_by 0xA5 images.tears.opened bench.opened);

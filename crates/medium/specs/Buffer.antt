@@ -1,5 +1,5 @@
 -- How the media in memory keep their bytes: buffers that are long enough for each write that is allowed, and the filler
--- behind the end.
+-- after the end.
 use Rattle.std.specs.Prelude.{◌≡◌, ◌⊎◌, ℕ, ◌+◌, ◌<◌, ◌≤◌, ◌^◌, max, Bool, false, List, [], ◌∷◌, length, get_or}
 use Rattle.std.specs.List.{All}
 use Rattle.medium.specs.declared.spans.Span.{Span}
@@ -16,11 +16,11 @@ pub record DirtyMarks : Type 0 where
   pub room : ℕ
 
 -- a content, and the place up to which it is ready for writes
-pub record Held : Type 0 where
+pub record ReadyContent : Type 0 where
   pub content : Content
   pub ready : ℕ
 
--- behind its end the list has the filler alone
+-- after its end the list has the filler alone
 pub record IsPadded {A : Type 0} (filler : A) (len : ℕ) (items : List A) : Type 0 where
   pub within : len ≤ length items
   pub behind : (k : ℕ) → len ≤ k → get_or items k filler ≡ filler
@@ -52,7 +52,7 @@ pub record SetFrom {A : Type 0} (d : A) (at n : ℕ) (f : ℕ → A) (before aft
   pub there : (k : ℕ) → k < n → get_or after (at + k) d ≡ f k
   pub elsewhere : (k : ℕ) → (k < at) ⊎ (at + n ≤ k) → get_or after k d ≡ get_or before k d
 
--- no mark stands outside of these spans, or behind the end
+-- no mark stands outside of these spans, or after the end
 pub record IsMarked (spans : List Span) (end : ℕ) (marks : List Bool) : Type 0 where
   pub padded : IsPadded false end marks
   pub ends : EndBy end spans

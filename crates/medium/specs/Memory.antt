@@ -2,7 +2,7 @@
 use Rattle.std.specs.Prelude.{◌≡◌, ◌↔◌, ℕ, ◌/◌, ◌≤◌, ◌==◌, if◌then◌else◌, List, [], ◌∷◌, length, replicate, take, Some, Contains}
 use Rattle.avl_values.specs.Causes.{more_by_one}
 use Rattle.medium_model.specs.CallsLeft.{CallsLeft, unknown, unlimited, after, exhausted}
-use Rattle.medium.specs.Buffer.{Held, IsTornImage}
+use Rattle.medium.specs.Buffer.{ReadyContent, IsTornImage}
 use Rattle.medium_model.specs.Content.{Content, written}
 use Rattle.medium_model.specs.State.{MediumState}
 use Rattle.medium_model.specs.declared.bench.Tear.{Tear}
@@ -76,8 +76,9 @@ pub record BenchView : Type 0 where
   pub power : Power
   pub faults : ℕ
 
--- a bench's images fit its content
-pub record IsBench (held : Held) (images : TearsHeld) : Type 0 where
+-- a bench's images fit its content, and unarmed it keeps what is durable
+pub record IsBench (held : ReadyContent) (images : TearsHeld) (tear : Tear) (power : Power) : Type 0 where
+  pub unarmed : power ≡ Unarmed → tear ≡ Keep
   pub room : held.ready ≤ images.room
   pub zero : IsTornImage held.content images.tears.zero
   pub opened : IsTornImage held.content images.tears.opened

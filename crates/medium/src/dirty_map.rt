@@ -2,7 +2,7 @@ ghost use Rattle.std.specs.Prelude.{◌≡◌, ◌+◌, ◌<◌, ◌≤◌, ℕ,
 ghost use Rattle.medium.specs.Buffer.{EndBy, IsOutside};
 ghost use Rattle.medium_model.specs.Content.{written};
 
-use crate::spans::{Span, Spans, add, unmark};
+use crate::spans::{Span, Spans, add, mark_from, unmark};
 use arrayvec::ArrayVec;
 use avl_values::NoMemory;
 use std::alloc::Global;
@@ -65,9 +65,7 @@ impl DirtyMap {
         requires { at + count ≤ self.old.room }
         ensures { self.new ≡ record self.old { marks = written false at (replicate count true) self.old.marks } }
     {
-        for i in 0..count {
-            self.marks[at + i] = true;
-        }
+        mark_from(self.marks.as_mut_slice(), at, count, true);
         add(
             &mut self.spans,
             Span {

@@ -6,16 +6,19 @@ ghost use Rattle.medium_model.specs.PowerLoss.{IsImage};
 ghost use Rattle.medium.specs.File.{file_state};
 ghost use Rattle.medium_model.specs.State.{Counted, IfTold, TornWrite, told};
 
+use crate::open_file::open_settled;
 use avl_values::Failed;
 use medium_model::{MAX_PLACE, Medium, ReserveError};
-use std::fs;
+use std::io::ErrorKind;
 use std::marker::Model;
 use std::os::unix::fs::FileExt;
+use std::{fs, io};
 
 /// A medium over a file of the operating system. It keeps a count of its failures, and tells nothing of its content: that a
 /// real file behaves as a medium is not proved.
 ///
-/// After a `sync` that failed each further call fails, since the system may have dropped what was written.
+/// After a `sync` that failed each further call fails, since the system may have dropped what was written. `reserve` takes no
+/// space on the disk: a full disk shows as a failed write.
 #[derive(Drop)]
 pub struct FileMedium {
     file: fs::File,
@@ -36,16 +39,22 @@ impl Model for FileMedium {
 }
 
 impl FileMedium {
-    /// The file has to be open for reading and writing.
-    pub fn new(file: fs::File) -> FileMedium
-        ensures { result ≡ record { ready = 0; faults = 0; broken = false } }
+    /// Opens the file at a path, and makes an empty one where there is none. It is settled before anything is read: synced, and
+    /// what the system's cache holds of it dropped, since a sync that failed in an earlier process may have left there what the
+    /// disk hasn't. The folder is synced too, so that the file's name stays.
+    ///
+    /// It fails where the path names no regular file, as a folder, a device or a link, or where another handle, in this process
+    /// or in another one, holds the file's lock. This handle holds it until it is let go.
+    pub fn open(rt: &HostRuntime, path: &str) -> io::Result<FileMedium>
+        ensures { IfOk result (λ m. m ≡ record { ready = 0; faults = 0; broken = false }) }
     {
-        FileMedium {
+        let file = open_settled(rt, path)?;
+        Ok(FileMedium {
             file,
             ready: 0,
             faults: 0,
             broken: false,
-        }
+        })
     }
 
     // Counts a failure.
@@ -57,6 +66,25 @@ impl FileMedium {
         self.faults = self.faults.saturating_add(1);
         Failed
     }
+}
+
+// Reads until the slice is full or the file ends. A call that a signal interrupted is made again.
+fn read_full(file: &fs::File, at: u64, into: &mut [u8]) -> io::Result<usize>
+    ensures { IfOk result (λ n. n ≤ length into.old) }
+{
+    let mut done = 0;
+    for _call in 0..u64::MAX {
+        if done >= into.len() {
+            return Ok(done);
+        }
+        match file.read_at(&mut into[done..], at.saturating_add(done as u64)) {
+            Ok(0) => return Ok(done),
+            Ok(count) => done += count,
+            Err(error) if error.kind() == ErrorKind::Interrupted => {}
+            Err(error) => return Err(error),
+        }
+    }
+    Err(ErrorKind::Interrupted.into())
 }
 
 impl Medium for FileMedium {
@@ -118,7 +146,7 @@ impl Medium for FileMedium {
         if self.broken {
             return Err(self.fail());
         }
-        match self.file.read_at(into, at) {
+        match read_full(&self.file, at, into) {
             Ok(count) => Ok(count),
             Err(_) => Err(self.fail()),
         }

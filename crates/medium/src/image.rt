@@ -2,12 +2,12 @@ ghost use Rattle.std.specs.Prelude.{◌≡◌, ◌⊎◌, ◌+◌, ◌-◌, ◌<
 ghost use Rattle.medium.specs.Buffer.{EndBy, IsOutside};
 ghost use Rattle.medium_model.specs.Content.{written};
 
-use crate::spans::{Span, copy_spans};
+use crate::spans::{Span, copy_spans, copy_to, fill_from};
 use avl_values::NoMemory;
 use std::alloc::Global;
 use std::marker::Model;
 
-/// The bytes of an image in memory, with room behind its end.
+/// The bytes of an image in memory, with room after its end.
 #[derive(Drop)]
 pub struct Image {
     bytes: Vec<u8>,
@@ -25,6 +25,16 @@ impl Model for Image {
     ghost invariant = { λ i. IsPadded 0 i.len i.bytes.items };
 }
 
+// Copies as many bytes as there are and fit.
+fn copy_front(from: &[u8], into: &mut [u8]) -> usize
+    ensures count { result ≡ min (length into.old) (length from.now) }
+    ensures bytes { take result into.new ≡ take result from.now }
+{
+    let count = into.len().min(from.len());
+    into[..count].copy_from_slice(&from[..count]);
+    count
+}
+
 impl Image {
     /// No bytes, and no room. It takes no memory.
     pub fn new(alloc: Global) -> Image
@@ -36,7 +46,7 @@ impl Image {
         }
     }
 
-    /// These bytes, and no room behind them.
+    /// These bytes, and no room after them.
     pub fn from_vec(bytes: Vec<u8>) -> Image
         ensures { result ≡ record { bytes = bytes.items; room = length bytes.items } }
     {
@@ -77,25 +87,19 @@ impl Image {
         ensures count { result ≡ min (length into.old) (length self.now.bytes - at) }
         ensures bytes { take result into.new ≡ take result (drop at self.now.bytes) }
     {
-        if at >= self.len as u64 {
+        let bytes = self.as_slice();
+        if at >= bytes.len() as u64 {
             return 0;
         }
-        let at = at as usize;
-        let count = into.len().min(self.len - at);
-        for i in 0..count {
-            into[i] = self.bytes[at + i];
-        }
-        count
+        copy_front(&bytes[at as usize..], into)
     }
 
-    /// Writes bytes at a place, the gap behind the end filled with zero bytes.
+    /// Writes bytes at a place, the gap after the end filled with zero bytes.
     pub fn put(&mut self, at: usize, from: &[u8])
         requires { at + length from.now ≤ self.old.room }
         ensures { self.new ≡ record self.old { bytes = written 0 at from.now self.old.bytes } }
     {
-        for i in 0..from.len() {
-            self.bytes[at + i] = from[i];
-        }
+        copy_to(self.bytes.as_mut_slice(), at, from);
         self.len = self.len.max(at + from.len());
     }
 
@@ -104,9 +108,7 @@ impl Image {
         requires { at + count ≤ self.old.room }
         ensures { self.new ≡ record self.old { bytes = written 0 at (replicate count byte) self.old.bytes } }
     {
-        for i in 0..count {
-            self.bytes[at + i] = byte;
-        }
+        fill_from(self.bytes.as_mut_slice(), at, count, byte);
         self.len = self.len.max(at + count);
     }
 

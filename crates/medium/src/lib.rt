@@ -8,6 +8,7 @@ mod image;
 mod memory_bench;
 mod memory_content;
 mod memory_medium;
+mod open_file;
 mod power;
 mod spans;
 mod torn_images;

@@ -34,7 +34,7 @@ impl Model for MemoryBench {
 
     ghost view = { λ b. record { content = b.content.content; tears = b.tears.tears; ready = b.content.ready; tear = b.tear; power = b.power; faults = b.faults } };
 
-    ghost invariant = { λ b. IsBench b.content b.tears };
+    ghost invariant = { λ b. IsBench b.content b.tears b.tear b.power };
 }
 
 impl MemoryBench {
@@ -88,6 +88,7 @@ impl MemoryBench {
         ensures most { self.new.ready ≤ 2 ^ 62 }
         ensures rest { self.new ≡ record self.old { ready = self.new.ready } }
     {
+        // The proof takes from it that it is ready up to 2^62 at most.
         let _ready = self.content.ready();
         self.tears.grow(to as usize)?;
         self.content.reserve(to)?;
@@ -119,6 +120,7 @@ impl Medium for MemoryBench {
         ensures lost { self.old.power ≡ Power.Lost → IsErrOf result ReserveError.Failed }
     {
         if self.ran_out() || to > MAX_PLACE {
+            // The proof takes from it that it is ready up to 2^62 at most.
             let _ready = self.content.ready();
             self.faults = self.faults.saturating_add(1);
             return Err(ReserveError::Failed);
@@ -212,6 +214,7 @@ impl Bench for MemoryBench {
     fn restart(&mut self)
         ensures image { IsRestarted (bench_state self.old).content (bench_state self.new).content }
         ensures unarmed { (bench_state self.new).left ≡ unlimited }
+        ensures was_unarmed { self.old.power ≡ Power.Unarmed → self.old.tear ≡ Tear.Keep }
         ensures ready { self.old.ready ≤ self.new.ready }
         ensures faults { self.new.faults ≡ self.old.faults }
 

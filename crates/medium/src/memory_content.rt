@@ -19,9 +19,9 @@ pub struct MemoryContent {
 }
 
 impl Model for MemoryContent {
-    ghost use Rattle.medium.specs.Buffer.{Held, FitTogether, content_of};
+    ghost use Rattle.medium.specs.Buffer.{ReadyContent, FitTogether, content_of};
 
-    ghost Value = { Held };
+    ghost Value = { ReadyContent };
 
     ghost view = { λ m. record { content = content_of m.reads m.durable m.dirty; ready = m.ready } };
 
@@ -118,7 +118,7 @@ impl MemoryContent {
         self.dirty.mark(at, from.len());
     }
 
-    /// A write of so many bytes failed before the first.
+    /// A write of `count` bytes failed before the first.
     pub fn spoil(&mut self, at: u64, count: usize)
         requires some { 0 < count }
         requires ready { at + count ≤ self.old.ready }

@@ -95,6 +95,7 @@ impl Medium for MemoryMedium {
         ensures not_counted { self.new ≡ record self.old { ready = self.new.ready; faults = self.new.faults } }
     {
         if to > MAX_PLACE {
+            // The proof takes from it that it is ready up to 2^62 at most.
             let _ready = self.content.ready();
             self.faults = self.faults.saturating_add(1);
             return Err(ReserveError::Failed);

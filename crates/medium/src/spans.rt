@@ -8,7 +8,7 @@ use arrayvec::ArrayVec;
 pub struct Span {
     /// The first place.
     pub first: usize,
-    /// The place behind the last one.
+    /// The place after the last one.
     pub end: usize,
 }
 
@@ -27,6 +27,7 @@ fn widen(spans: &mut Spans, span: Span)
     requires { 0 < length spans.old.items }
     ensures { HasMore span spans.old.items spans.new.items }
 {
+    // The proof takes from it that there are at most 256.
     let _most = spans.len();
     if let Some(last) = spans.pop() {
         spans.push(Span {
@@ -47,13 +48,37 @@ pub fn add(spans: &mut Spans, span: Span)
     spans.push(span);
 }
 
+/// Copies bytes to a place.
+pub fn copy_to(into: &mut [u8], at: usize, from: &[u8])
+    requires fits { at + length from.now ≤ length into.old }
+    ensures { SetFrom 0 at (length from.now) (λ k. get_or from.now k 0) into.old into.new }
+{
+    into[at..at + from.len()].copy_from_slice(from);
+}
+
+/// Sets bytes from a place on.
+pub fn fill_from(bytes: &mut [u8], at: usize, count: usize, byte: u8)
+    requires fits { at + count ≤ length bytes.old }
+    ensures { SetFrom 0 at count (λ _. byte) bytes.old bytes.new }
+{
+    bytes[at..at + count].fill(byte);
+}
+
+/// Sets or takes away the marks from a place on.
+pub fn mark_from(marks: &mut [bool], at: usize, count: usize, mark: bool)
+    requires fits { at + count ≤ length marks.old }
+    ensures { SetFrom false at count (λ _. mark) marks.old marks.new }
+{
+    marks[at..at + count].fill(mark);
+}
+
 fn copy_span(into: &mut [u8], from: &[u8], first: usize, end: usize)
     requires fits { end ≤ length into.old }
     requires there { end ≤ length from.now }
     ensures { SetFrom 0 first (end - first) (λ k. get_or from.now (first + k) 0) into.old into.new }
 {
-    for k in first..end {
-        into[k] = from[k];
+    if first < end {
+        copy_to(into, first, &from[first..end]);
     }
 }
 
@@ -61,8 +86,8 @@ fn unmark_span(marks: &mut [bool], first: usize, end: usize)
     requires fits { end ≤ length marks.old }
     ensures { SetFrom false first (end - first) (λ _. false) marks.old marks.new }
 {
-    for k in first..end {
-        marks[k] = false;
+    if first < end {
+        mark_from(marks, first, end - first, false);
     }
 }
 

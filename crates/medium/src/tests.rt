@@ -1,6 +1,7 @@
 use crate::{Bench, FileMedium, Medium, MemoryBench, MemoryMedium, Tear};
 use std::fs;
 use std::fs::OpenOptions;
+use std::os::unix::fs::symlink;
 use std::test::Fail;
 
 #[test]
@@ -10,7 +11,7 @@ fn a_medium_of_three_bytes_has_length_three(rt: HostRuntime) -> Result<(), Fail>
     Ok(())
 }
 
-// Four bytes 9 are durable, and the power loss meets a write of 1, 2, 3, 4 at place 6, behind the end.
+// Four bytes 9 are durable, and the power loss meets a write of 1, 2, 3, 4 at place 6, after the end.
 #[test]
 fn each_tear_leaves_its_image(rt: HostRuntime) -> Result<(), Fail> {
     let rows: [(Tear, &[u8]); 5] = [
@@ -34,24 +35,45 @@ fn each_tear_leaves_its_image(rt: HostRuntime) -> Result<(), Fail> {
     Ok(())
 }
 
-// A real file keeps what was written, and a gap behind its end reads as zero bytes.
+// A real file keeps what was written over a reopening, and a gap after its end reads as zero bytes.
 #[test]
 fn a_file_keeps_what_was_written(rt: HostRuntime) -> Result<(), Fail> {
     let path = "medium_test_file";
-    let file = OpenOptions::new()
-        .read(true)
-        .write(true)
-        .create(true)
-        .truncate(true)
-        .open(&rt, path)?;
-    let mut medium = FileMedium::new(file);
+    let _ = fs::remove_file(&rt, path);
+    let mut medium = FileMedium::open(&rt, path)?;
     medium.reserve(5)?;
     medium.write(3, &[7, 8])?;
     medium.sync()?;
+    drop(medium);
+    let mut medium = FileMedium::open(&rt, path)?;
     assert_eq!(&rt; medium.len()?, 5);
     let mut bytes = [1; 6];
     assert_eq!(&rt; medium.read(1, &mut bytes)?, 4);
     assert_eq!(&rt; bytes, [0, 0, 7, 8, 1, 1]);
     fs::remove_file(&rt, path)?;
+    Ok(())
+}
+
+// A folder, a device, a link, and a file that another handle holds, as one that appends to it: none is opened or changed.
+#[test]
+fn no_other_file_is_opened(rt: HostRuntime) -> Result<(), Fail> {
+    let folder = "medium_test_folder";
+    let _ = fs::remove_dir_all(&rt, folder);
+    fs::create_dir(&rt, folder)?;
+    fs::write(&rt, "medium_test_folder/file", b"kept".as_slice())?;
+    symlink(&rt, "file", "medium_test_folder/link")?;
+    for path in [folder, "/dev/null", "medium_test_folder/link"] {
+        assert!(&rt; FileMedium::open(&rt, path).is_err());
+    }
+    let path = "medium_test_folder/file";
+    let other = OpenOptions::new().append(true).open(&rt, path)?;
+    assert!(&rt; other.try_lock().is_ok());
+    assert!(&rt; FileMedium::open(&rt, path).is_err());
+    drop(other);
+    let held = FileMedium::open(&rt, path)?;
+    assert!(&rt; FileMedium::open(&rt, path).is_err());
+    drop(held);
+    assert_eq!(&rt; fs::metadata(&rt, path)?.len(), 4);
+    fs::remove_dir_all(&rt, folder)?;
     Ok(())
 }

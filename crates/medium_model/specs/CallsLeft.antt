@@ -7,7 +7,7 @@ pub data CallsLeft : Type 0 where
   unknown : CallsLeft
   -- none will fail
   unlimited : CallsLeft
-  -- so many pass, and the next one fails
+  -- that many pass, and the next one fails
   after : ℕ → CallsLeft
   -- one has failed, and so does each further one
   exhausted : CallsLeft

@@ -13,7 +13,7 @@ pub record Content : Type 0 where
 abbrev pub filled : {A : Type 0} → A → ℕ → List A → List A
 filled d n xs = take n xs ++ replicate (n - length xs) d
 
--- the list with others written at a place, the gap behind its end filled
+-- the list with others written at a place, the gap after its end filled
 abbrev pub written : {A : Type 0} → A → ℕ → List A → List A → List A
 written d at ys xs = filled d at xs ++ (ys ++ drop (at + length ys) xs)
 

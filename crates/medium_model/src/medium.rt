@@ -62,7 +62,7 @@ pub trait Medium: Drop {
         ensures content { (state self.new).content ≡ (state self.old).content }
         ensures counted { Counted 1 (state self.old) (state self.new) (IsErr result) };
 
-    /// Writes bytes at a place, and fills a gap behind the end with zero bytes. It takes no memory.
+    /// Writes bytes at a place, and fills a gap after the end with zero bytes. It takes no memory.
     fn write(&mut self, at: u64, from: &[u8]) -> Result<(), Failed>
         requires some { 0 < length from.now }
         requires ready { at + length from.now ≤ (state self.old).ready }

@@ -1,6 +1,7 @@
 use avl_values::{ByteList, Codec, Imei, NoMemory, Rec, RecList, WideList, WideRec};
-use fmb_text::{refused_text, report_text};
+use fmb_text::report_text;
 use std::alloc::Global;
+use text_streams::refused_text;
 use trial_model::{ConnectionOutcome, DeviceEnd, DeviceOutcome, Outcome, ServerEnd};
 
 fn zeros(alloc: Global, count: usize) -> Result<ByteList, NoMemory> {

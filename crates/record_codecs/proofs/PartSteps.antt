@@ -8,6 +8,7 @@ use Rattle.avl_values.specs.declared.width.Width.{Width}
 use Rattle.layout.specs.Fields.{number, any, number_row, times}
 use Rattle.layout.specs.Rows.{Rows, row, judge, unless_fault}
 use Rattle.layout.proofs.Judging.{judge_short, judge_long, judge_done}
+use Rattle.record_layout.specs.declared.part.Field.{Field}
 use Rattle.record_layout.specs.declared.part.Part.{Part}
 use Rattle.record_layout.specs.declared.part.Part.TheVariants.{Plain, Total, Pairs, Triples}
 use Rattle.record_layout.specs.RecordRows.{count_rule, pair_rows, triple_rows, parts_rows}
@@ -180,15 +181,15 @@ at_none (Some x) P Q is p = absurd (cc)
 
 pub few_part : (p q : Part) (ps : List Part) (total counted : ℕ) (bytes : List ℕ) → p ≡ q → length bytes < first_width_of q → HasNoEnd (parts_rows (p ∷ ps) total counted nothing) bytes
 unfolding parts_rows
-few_part p (Plain w) ps total counted bytes is h = subst (λ x. HasNoEnd (parts_rows (x ∷ ps) total counted nothing) bytes) (sym is) (λ place. ap end_of (judge_short (bytes_of w) _ _ place bytes h))
+few_part p (Plain f w) ps total counted bytes is h = subst (λ x. HasNoEnd (parts_rows (x ∷ ps) total counted nothing) bytes) (sym is) (λ place. ap end_of (judge_short (bytes_of w) _ _ place bytes h))
 few_part p (Total w) ps total counted bytes is h = subst (λ x. HasNoEnd (parts_rows (x ∷ ps) total counted nothing) bytes) (sym is) (λ place. ap end_of (judge_short (bytes_of w) _ _ place bytes h))
 few_part p (Pairs w i v) ps total counted bytes is h = subst (λ x. HasNoEnd (parts_rows (x ∷ ps) total counted nothing) bytes) (sym is) (λ place. ap end_of (judge_short (bytes_of w) _ _ place bytes h))
 few_part p (Triples w i v) ps total counted bytes is h = subst (λ x. HasNoEnd (parts_rows (x ∷ ps) total counted nothing) bytes) (sym is) (λ place. ap end_of (judge_short (bytes_of w) _ _ place bytes h))
 
-pub past_plain : (p : Part) (w : Width) (ps : List Part) (total counted : ℕ) (bytes rest : List ℕ) → p ≡ Plain w → bytes_of w ≤ length bytes → rest ≡ drop (bytes_of w) bytes
+pub past_plain : (p : Part) (f : Field) (w : Width) (ps : List Part) (total counted : ℕ) (bytes rest : List ℕ) → p ≡ Plain f w → bytes_of w ≤ length bytes → rest ≡ drop (bytes_of w) bytes
     → EndsWith (parts_rows (p ∷ ps) total counted nothing) bytes (parts_rows ps total counted nothing) rest
 unfolding parts_rows
-past_plain p w ps total counted bytes rest is h behind =
+past_plain p f w ps total counted bytes rest is h behind =
     subst (λ x. EndsWith (parts_rows (x ∷ ps) total counted nothing) bytes (parts_rows ps total counted nothing) rest) (sym is) (past_any (bytes_of w) (parts_rows ps total counted nothing) bytes rest h behind)
 
 pub past_total : (p : Part) (w : Width) (ps : List Part) (total counted n : ℕ) (bytes rest : List ℕ) → p ≡ Total w → bytes_of w ≤ length bytes → n ≡ front_number w bytes → rest ≡ behind w bytes

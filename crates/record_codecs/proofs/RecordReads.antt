@@ -16,7 +16,8 @@ use Rattle.layout.specs.Bytes.{AreBytes}
 use Rattle.layout.specs.Fields.{number}
 use Rattle.record_layout.specs.Spelling.{spell, pair_bytes, triple_bytes, IsRecord}
 use Rattle.record_layout.proofs.Table.{length-spell, number-spell}
-use Rattle.record_codecs.specs.Elements.{id_width_of, count_width_of, all_widths, front_number, behind, pairs_in, behind_pairs, groups_in, behind_groups, nx_in, nx_of, elements, ios_of}
+use Rattle.record_layout.specs.Table.{count_width, id_width}
+use Rattle.record_codecs.specs.Elements.{all_widths, front_number, behind, pairs_in, behind_pairs, groups_in, behind_groups, nx_in, nx_of, elements, ios_of}
 use Rattle.record_codecs.specs.Shown.{elements_from}
 
 -- Fields at their places.
@@ -70,7 +71,7 @@ speed_is C8 v bytes r = ap (λ b. number (take 2 (drop 22 b))) r.is ∙ number-s
 speed_is C8E v bytes r = ap (λ b. number (take 2 (drop 22 b))) r.is ∙ number-spell W2 v.speed r.fits.1.1.1.1.1.1.1.0
 speed_is C16 v bytes r = ap (λ b. number (take 2 (drop 22 b))) r.is ∙ number-spell W2 v.speed r.fits.1.1.1.1.1.1.1.0
 
-pub event_is : (codec : Codec) (v : RecordValue) (bytes : List ℕ) → IsRecord codec v bytes → front_number (id_width_of codec) (drop 24 bytes) ≡ v.event
+pub event_is : (codec : Codec) (v : RecordValue) (bytes : List ℕ) → IsRecord codec v bytes → front_number (id_width codec) (drop 24 bytes) ≡ v.event
 event_is C8 v bytes r = ap (λ b. number (take 1 (drop 24 b))) r.is ∙ number-spell W1 v.event r.fits.1.1.1.1.1.1.1.1.0
 event_is C8E v bytes r = ap (λ b. number (take 2 (drop 24 b))) r.is ∙ number-spell W2 v.event r.fits.1.1.1.1.1.1.1.1.0
 event_is C16 v bytes r = ap (λ b. number (take 2 (drop 24 b))) r.is ∙ number-spell W2 v.event r.fits.1.1.1.1.1.1.1.1.0
@@ -103,10 +104,10 @@ pairs_length id w (e ∷ es) =
     let n : suc (length es) * (bytes_of id + bytes_of w) ≡ (bytes_of id + bytes_of w) + length es * (bytes_of id + bytes_of w) = omega arith in
     omega (arith, a, b, n, rest, length-spell id e.0, length-spell w e.1)
 
-pairs_read : (codec : Codec) (w : Width) (es : List (ℕ × ℕ)) (more : List ℕ) → AllByRecursion (PairFits (id_width_of codec) w) es → pairs_in codec w (length es) (flat_map (pair_bytes (id_width_of codec) w) es ++ more) ≡ elements w es
+pairs_read : (codec : Codec) (w : Width) (es : List (ℕ × ℕ)) (more : List ℕ) → AllByRecursion (PairFits (id_width codec) w) es → pairs_in codec w (length es) (flat_map (pair_bytes (id_width codec) w) es ++ more) ≡ elements w es
 pairs_read codec w [] more fit = refl
 pairs_read codec w (e ∷ es) more fit =
-    let i = id_width_of codec in
+    let i = id_width codec in
     let fm = flat_map (pair_bytes i w) es ++ more in
     let join : flat_map (pair_bytes i w) (e ∷ es) ++ more ≡ spell i e.0 ++ (spell w e.1 ++ fm) =
     append_assoc (spell i e.0 ++ spell w e.1) (flat_map (pair_bytes i w) es) more ∙ append_assoc (spell i e.0) (spell w e.1) fm in
@@ -119,31 +120,31 @@ pairs_read codec w (e ∷ es) more fit =
     ∙ ap (λ b. E e.0 b ∷ pairs_in codec w (length es) fm) (front_spell w e.1 fm fit.0.1)
     ∙ ap (λ l. E e.0 e.1 ∷ l) (pairs_read codec w es more fit.1)
 
-past_pairs : (codec : Codec) (w : Width) (es : List (ℕ × ℕ)) (more : List ℕ) → behind_pairs codec w (length es) (flat_map (pair_bytes (id_width_of codec) w) es ++ more) ≡ more
+past_pairs : (codec : Codec) (w : Width) (es : List (ℕ × ℕ)) (more : List ℕ) → behind_pairs codec w (length es) (flat_map (pair_bytes (id_width codec) w) es ++ more) ≡ more
 past_pairs codec w es more =
-    let f = flat_map (pair_bytes (id_width_of codec) w) es in
-    ap (λ k. drop k (f ++ more)) (sym (pairs_length (id_width_of codec) w es)) ∙ drop-append_seam f more
+    let f = flat_map (pair_bytes (id_width codec) w) es in
+    ap (λ k. drop k (f ++ more)) (sym (pairs_length (id_width codec) w es)) ∙ drop-append_seam f more
 
 abbrev group_bytes : Codec → Width → List (ℕ × ℕ) → List ℕ
-group_bytes codec w es = spell (count_width_of codec) (length es) ++ flat_map (pair_bytes (id_width_of codec) w) es
+group_bytes codec w es = spell (count_width codec) (length es) ++ flat_map (pair_bytes (id_width codec) w) es
 
-group_join : (codec : Codec) (w : Width) (es : List (ℕ × ℕ)) (more : List ℕ) → group_bytes codec w es ++ more ≡ spell (count_width_of codec) (length es) ++ (flat_map (pair_bytes (id_width_of codec) w) es ++ more)
-group_join codec w es more = append_assoc (spell (count_width_of codec) (length es)) (flat_map (pair_bytes (id_width_of codec) w) es) more
+group_join : (codec : Codec) (w : Width) (es : List (ℕ × ℕ)) (more : List ℕ) → group_bytes codec w es ++ more ≡ spell (count_width codec) (length es) ++ (flat_map (pair_bytes (id_width codec) w) es ++ more)
+group_join codec w es more = append_assoc (spell (count_width codec) (length es)) (flat_map (pair_bytes (id_width codec) w) es) more
 
-group_read : (codec : Codec) (w : Width) (ws : List Width) (es : List (ℕ × ℕ)) (more : List ℕ) → length es < limit (count_width_of codec) → AllByRecursion (PairFits (id_width_of codec) w) es
+group_read : (codec : Codec) (w : Width) (ws : List Width) (es : List (ℕ × ℕ)) (more : List ℕ) → length es < limit (count_width codec) → AllByRecursion (PairFits (id_width codec) w) es
     → groups_in codec (w ∷ ws) (group_bytes codec w es ++ more) ≡ elements w es ++ groups_in codec ws more
 group_read codec w ws es more few fit =
-    let c = count_width_of codec in
-    let f = flat_map (pair_bytes (id_width_of codec) w) es ++ more in
+    let c = count_width codec in
+    let f = flat_map (pair_bytes (id_width codec) w) es ++ more in
     let G : ℕ → List ℕ → List IoElement = λ n b. pairs_in codec w n b ++ groups_in codec ws (behind_pairs codec w n b) in
     ap (groups_in codec (w ∷ ws)) (group_join codec w es more) ∙ ap (λ b. G (front_number c (spell c (length es) ++ f)) b) (drop_spell c (length es) f)
     ∙ ap (λ n. G n f) (front_spell c (length es) f few)
     ∙ ap (λ l. l ++ groups_in codec ws (behind_pairs codec w (length es) f)) (pairs_read codec w es more fit) ∙ ap (λ b. elements w es ++ groups_in codec ws b) (past_pairs codec w es more)
 
-group_past : (codec : Codec) (w : Width) (ws : List Width) (es : List (ℕ × ℕ)) (more : List ℕ) → length es < limit (count_width_of codec) → behind_groups codec (w ∷ ws) (group_bytes codec w es ++ more) ≡ behind_groups codec ws more
+group_past : (codec : Codec) (w : Width) (ws : List Width) (es : List (ℕ × ℕ)) (more : List ℕ) → length es < limit (count_width codec) → behind_groups codec (w ∷ ws) (group_bytes codec w es ++ more) ≡ behind_groups codec ws more
 group_past codec w ws es more few =
-    let c = count_width_of codec in
-    let f = flat_map (pair_bytes (id_width_of codec) w) es ++ more in
+    let c = count_width codec in
+    let f = flat_map (pair_bytes (id_width codec) w) es ++ more in
     ap (behind_groups codec (w ∷ ws)) (group_join codec w es more)
     ∙ ap (λ b. behind_groups codec ws (behind_pairs codec w (front_number c (spell c (length es) ++ f)) b)) (drop_spell c (length es) f)
     ∙ ap (λ n. behind_groups codec ws (behind_pairs codec w n f)) (front_spell c (length es) f few) ∙ ap (behind_groups codec ws) (past_pairs codec w es more)
@@ -153,14 +154,14 @@ abbrev four_groups : Codec → List (ℕ × ℕ) → List (ℕ × ℕ) → List 
 four_groups codec a b c d more = group_bytes codec W1 a ++ (group_bytes codec W2 b ++ (group_bytes codec W4 c ++ (group_bytes codec W8 d ++ more)))
 
 record GroupsFit (codec : Codec) (a b c d : List (ℕ × ℕ)) : Type 0 where
-  pub few_a : length a < limit (count_width_of codec)
-  pub few_b : length b < limit (count_width_of codec)
-  pub few_c : length c < limit (count_width_of codec)
-  pub few_d : length d < limit (count_width_of codec)
-  pub fit_a : AllByRecursion (PairFits (id_width_of codec) W1) a
-  pub fit_b : AllByRecursion (PairFits (id_width_of codec) W2) b
-  pub fit_c : AllByRecursion (PairFits (id_width_of codec) W4) c
-  pub fit_d : AllByRecursion (PairFits (id_width_of codec) W8) d
+  pub few_a : length a < limit (count_width codec)
+  pub few_b : length b < limit (count_width codec)
+  pub few_c : length c < limit (count_width codec)
+  pub few_d : length d < limit (count_width codec)
+  pub fit_a : AllByRecursion (PairFits (id_width codec) W1) a
+  pub fit_b : AllByRecursion (PairFits (id_width codec) W2) b
+  pub fit_c : AllByRecursion (PairFits (id_width codec) W4) c
+  pub fit_d : AllByRecursion (PairFits (id_width codec) W8) d
 
 four_read : (codec : Codec) (a b c d : List (ℕ × ℕ)) (more : List ℕ) → GroupsFit codec a b c d
     → groups_in codec all_widths (four_groups codec a b c d more) ≡ elements W1 a ++ (elements W2 b ++ (elements W4 c ++ (elements W8 d ++ [])))

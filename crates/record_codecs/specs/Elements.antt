@@ -9,16 +9,7 @@ use Rattle.avl_values.specs.declared.codec.Codec.TheVariants.{C8, C8E, C16}
 use Rattle.avl_values.specs.declared.width.Width.{Width}
 use Rattle.avl_values.specs.declared.width.Width.TheVariants.{W1, W2, W4, W8}
 use Rattle.layout.specs.Fields.{number}
-
-abbrev pub id_width_of : Codec → Width
-id_width_of C8 = W1
-id_width_of C8E = W2
-id_width_of C16 = W2
-
-abbrev pub count_width_of : Codec → Width
-count_width_of C8 = W1
-count_width_of C8E = W2
-count_width_of C16 = W1
+use Rattle.record_layout.specs.Table.{count_width, id_width}
 
 abbrev pub all_widths : List Width
 all_widths = W1 ∷ W2 ∷ W4 ∷ W8 ∷ []
@@ -34,23 +25,23 @@ behind width bytes = drop (bytes_of width) bytes
 abbrev pub pairs_in : Codec → Width → ℕ → List ℕ → List IoElement
 pairs_in codec width zero bytes = []
 pairs_in codec width (suc n) bytes =
-    record { id = front_number (id_width_of codec) bytes; width = width; value = front_number width (behind (id_width_of codec) bytes) } ∷ pairs_in codec width n (behind width (behind (id_width_of codec) bytes))
+    record { id = front_number (id_width codec) bytes; width = width; value = front_number width (behind (id_width codec) bytes) } ∷ pairs_in codec width n (behind width (behind (id_width codec) bytes))
 
 -- and the bytes behind them
 abbrev pub behind_pairs : Codec → Width → ℕ → List ℕ → List ℕ
-behind_pairs codec width n bytes = drop (n * (bytes_of (id_width_of codec) + bytes_of width)) bytes
+behind_pairs codec width n bytes = drop (n * (bytes_of (id_width codec) + bytes_of width)) bytes
 
 -- the elements of the groups of these widths, each a count and so many pairs
 abbrev pub groups_in : Codec → List Width → List ℕ → List IoElement
 groups_in codec [] bytes = []
 groups_in codec (w ∷ ws) bytes =
-    let n = front_number (count_width_of codec) bytes in
-    let pairs = behind (count_width_of codec) bytes in
+    let n = front_number (count_width codec) bytes in
+    let pairs = behind (count_width codec) bytes in
     pairs_in codec w n pairs ++ groups_in codec ws (behind_pairs codec w n pairs)
 
 abbrev pub behind_groups : Codec → List Width → List ℕ → List ℕ
 behind_groups codec [] bytes = bytes
-behind_groups codec (w ∷ ws) bytes = behind_groups codec ws (behind_pairs codec w (front_number (count_width_of codec) bytes) (behind (count_width_of codec) bytes))
+behind_groups codec (w ∷ ws) bytes = behind_groups codec ws (behind_pairs codec w (front_number (count_width codec) bytes) (behind (count_width codec) bytes))
 
 -- so many elements of any length at the front, each an id, a length and so many bytes
 abbrev pub nx_in : ℕ → List ℕ → List (ℕ × List ℕ)

@@ -1,4 +1,5 @@
 pub mod BodyCursor
+pub mod CursorLaws
 pub mod Elements
 pub mod FrontRecords
 pub mod Machines

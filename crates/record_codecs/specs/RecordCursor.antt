@@ -1,9 +1,9 @@
 -- What is left of a record's rows at a place of the code.
-use Rattle.std.specs.Prelude.{◌≡◌, ℕ, ◌≤◌, List, ◌∷◌, drop, length, Option, Some, None, Result, Ok, Err}
+use Rattle.std.specs.Prelude.{◌≡◌, ℕ, List, ◌∷◌, drop, Option, Some, None, Result, Ok, Err}
 use Rattle.avl_values.specs.Width.{bytes_of}
 use Rattle.avl_values.specs.declared.fault.FaultKind.{FaultKind}
 use Rattle.layout.specs.Rows.{Rows, done}
-use Rattle.layout.specs.Fields.{number, any, number_row, times}
+use Rattle.layout.specs.Fields.{any, number_row, times}
 use Rattle.layout.specs.Next.{rule_of, rows_after}
 use Rattle.record_layout.specs.declared.part.Part.{Part}
 use Rattle.record_layout.specs.declared.part.Part.TheVariants as part
@@ -45,10 +45,19 @@ abbrev pub counted_with : List Part → ℕ → ℕ → Option ℕ
 counted_with ps total counted = some_unless (count_rule ps total counted) counted
 
 abbrev pub first_width_of : Part → ℕ
-first_width_of (part.Plain width) = bytes_of width
+first_width_of (part.Plain field width) = bytes_of width
 first_width_of (part.Total width) = bytes_of width
 first_width_of (part.Pairs count id value) = bytes_of count
 first_width_of (part.Triples count id len) = bytes_of count
+
+-- the field's width
+abbrev pub width_in : InRecord → ℕ
+width_in (at.Part r p) = first_width_of p
+width_in (at.Id r p) = bytes_of p.id
+width_in (at.Value r p) = bytes_of p.value
+width_in (at.TextId r t) = bytes_of t.id
+width_in (at.TextLength r t) = bytes_of t.length
+width_in (at.Text r t n) = n
 
 -- the code goes over a field of no bytes only once in a row
 abbrev pub weight_in : InRecord → ℕ
@@ -67,7 +76,3 @@ weight_from None = 0
 abbrev pub FollowsIn : Rows Nothing → List ℕ → Result (Option InRecord) FaultKind → Type 0
 FollowsIn rows field (Ok next) = (rule_of rows field ≡ None) × (rows_after rows field ≡ rows_from next)
 FollowsIn rows field (Err kind) = rule_of rows field ≡ Some kind
-
--- the value is that of the field, where the field is no longer than a number
-abbrev pub Reads : List ℕ → ℕ → Type 0
-Reads field value = length field ≤ 8 → number field ≡ value

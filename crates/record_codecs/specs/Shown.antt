@@ -1,11 +1,18 @@
 -- What the view of a record shows.
-use Rattle.std.specs.Prelude.{ℕ, Option, Some, None}
+use Rattle.std.specs.Prelude.{ℕ, List, Option, Some, None}
 use Rattle.avl_values.specs.RecordValue.{RecordValue}
 use Rattle.avl_values.specs.declared.codec.Codec.{Codec}
 use Rattle.avl_values.specs.declared.codec.Codec.TheVariants.{C8, C8E, C16}
 use Rattle.avl_values.specs.declared.gps.Gps.{Gps}
 use Rattle.record_layout.specs.Spelling.{IsRecord}
 use Rattle.record_codecs.specs.declared.record_view.RecordView.{RecordView}
+
+-- the codec of a view, and the bytes that it reads
+abbrev pub codec_of : RecordView → Codec
+codec_of r = r.codec
+
+abbrev pub viewed : RecordView → List ℕ
+viewed r = r.bytes.now
 
 -- the viewed bytes are the record of this value
 abbrev pub Shows : RecordView → RecordValue → Type 0

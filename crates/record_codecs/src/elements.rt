@@ -4,31 +4,12 @@ ghost use Rattle.std.specs.Bool.{OnFalse, OnTrue};
 ghost use Rattle.std.specs.Iterator.{YieldsFirst, YieldsFirstBy, item_count};
 ghost use Rattle.avl_values.specs.Width.{bytes_of, limit};
 ghost use Rattle.layout.specs.Fields.{number as number_of};
-ghost use Rattle.record_codecs.specs.Elements.{id_width_of, count_width_of, all_widths, groups_in, behind_groups, nx_of};
+ghost use Rattle.record_codecs.specs.Elements.{all_widths, groups_in, behind_groups, nx_of};
 ghost use Rattle.record_codecs.specs.Views.{ios_left, nx_left};
 
 use avl_values::{Codec, Io, Width};
 use layout::number;
-
-/// The width of an I/O element's id, and of an event's.
-pub fn id_width(codec: Codec) -> Width
-    ensures { result ≡ id_width_of codec }
-{
-    match codec {
-        Codec::C8 => Width::W1,
-        Codec::C8E | Codec::C16 => Width::W2,
-    }
-}
-
-/// The width of a group's count.
-fn count_width(codec: Codec) -> Width
-    ensures { result ≡ count_width_of codec }
-{
-    match codec {
-        Codec::C8 | Codec::C16 => Width::W1,
-        Codec::C8E => Width::W2,
-    }
-}
+use record_layout::{count_width, id_width};
 
 /// The first bytes, so many where they are there, and the others.
 pub fn split_front(bytes: &[u8], n: usize) -> (&[u8], &[u8])

@@ -1,13 +1,14 @@
 //! Where in a record the next field stands.
 ghost use Rattle.std.specs.Prelude.{◌≡◌, ◌≤◌, ◌+◌, ℕ, List, length, drop, Some, IfOk};
 ghost use Rattle.layout.specs.Fields.{times};
-ghost use Rattle.layout.specs.Next.{width_of};
+ghost use Rattle.field_machine.specs.Places.{Reads};
 ghost use Rattle.record_layout.specs.RecordRows.{lone_record, pair_rows, triple_rows};
 ghost use Rattle.record_layout.specs.Table.{parts_of};
-ghost use Rattle.record_codecs.specs.RecordCursor.{rows_in, rows_from, parts_left, counted_with, first_width_of, weight_in, weight_from, FollowsIn, Reads};
+ghost use Rattle.record_codecs.specs.RecordCursor.{rows_in, rows_from, parts_left, counted_with, first_width_of, width_in, weight_in, weight_from, FollowsIn};
 
+use crate::part_walk::counted_with;
 use avl_values::{Codec, FaultKind, Width};
-use record_layout::{Part, parts};
+use record_layout::{Field, Part, parts};
 
 /// A record: its codec, the part after the one that is read, its total, and the sum of its counts so far.
 #[derive(Clone, Copy)]
@@ -106,30 +107,18 @@ impl RecordState {
     fn counted_with(self, count: u64) -> Option<u64>
         ensures { result ≡ counted_with (drop self.part (parts_of self.codec)) self.total (self.counted + count) }
     {
-        let counted = self.counted.checked_add(count)?;
-        if self.part >= parts(self.codec).len() {
-            if counted == self.total {
-                Some(counted)
-            } else {
-                None
-            }
-        } else {
-            if counted <= self.total {
-                Some(counted)
-            } else {
-                None
-            }
-        }
+        let left = parts(self.codec).get(self.part..).unwrap_or(&[]);
+        counted_with(self.total, self.counted, count, left)
     }
 
     /// What stands after a part's first field.
     #[inline(always)]
     fn after_part(self, part: Part, value: u64) -> Result<Option<InRecord>, FaultKind>
-        ensures follows { (field : List ℕ) → Some (length field) ≡ width_of (rows_in (InRecord.Part self part)) → Reads field value → FollowsIn (rows_in (InRecord.Part self part)) field result }
+        ensures follows { (field : List ℕ) → length field ≡ first_width_of part → Reads field value → FollowsIn (rows_in (InRecord.Part self part)) field result }
         ensures turns { IfOk result (λ next. weight_from next ≡ 0) }
     {
         match part {
-            Part::Plain(_) => Ok(self.next_part()),
+            Part::Plain(_, _) => Ok(self.next_part()),
             Part::Total(_) => Ok(RecordState {
                 total: value,
                 ..self
@@ -161,7 +150,7 @@ fn first_width(part: Part) -> u64
     ensures { result ≡ first_width_of part }
 {
     let width = match part {
-        Part::Plain(width) | Part::Total(width) => width,
+        Part::Plain(_, width) | Part::Total(width) => width,
         Part::Pairs(count, _, _) | Part::Triples(count, _, _) => count,
     };
     u64::from(width.bytes())
@@ -181,13 +170,13 @@ impl InRecord {
             total: 0,
             counted: 0,
         };
-        InRecord::Part(record, Part::Plain(Width::W8))
+        InRecord::Part(record, Part::Plain(Field::Time, Width::W8))
     }
 
     /// The width of the field.
     #[inline(always)]
     pub fn width(self) -> u64
-        ensures { width_of (rows_in self) ≡ Some result }
+        ensures { result ≡ width_in self }
     {
         match self {
             InRecord::Part(_, part) => first_width(part),
@@ -202,7 +191,7 @@ impl InRecord {
     /// What stands after a field of this value: the next field, the record's end, or the rule that the field breaks.
     #[inline(always)]
     pub fn next(self, value: u64) -> Result<Option<InRecord>, FaultKind>
-        ensures follows { (field : List ℕ) → Some (length field) ≡ width_of (rows_in self) → Reads field value → FollowsIn (rows_in self) field result }
+        ensures follows { (field : List ℕ) → length field ≡ width_in self → Reads field value → FollowsIn (rows_in self) field result }
         ensures turns { IfOk result (λ next. weight_from next + weight_in self ≤ 1) }
     {
         match self {

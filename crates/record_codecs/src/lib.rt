@@ -3,28 +3,27 @@
 //! records.
 #![tactic(auto)]
 
-mod cursor;
 mod elements;
 mod in_record;
 mod machine;
 mod part_walk;
+mod place;
 mod reading;
 mod record;
 mod record_iter;
 mod record_view;
 mod scanning;
-mod verdict;
 
 pub use elements::{Ios, Nxs};
 pub use machine::RecordMachine;
+pub use place::PacketPlace;
 pub use reading::{records, view};
 pub use record::is_record;
 pub use record_iter::Records;
 pub use record_layout::PacketHead;
 pub use record_view::RecordView;
 pub use record_writing::{Body, WriteFault, write_record};
-pub use scanning::{read_packet, scan};
-pub use verdict::Scan;
+pub use scanning::{Scan, read_packet, scan};
 
 #[cfg(test)]
 mod tests;

@@ -72,28 +72,28 @@ fn skip_triples(bytes: &[u8], count: u64, id: Width, length: Width) -> Option<&[
     Some(rest)
 }
 
-impl<'a> PartWalk<'a> {
-    /// The sum of the counts with one more, which is at most the total, and at the last count the total.
-    #[inline(always)]
-    fn counted_with(self, count: u64, left: &[Part]) -> Option<u64>
-        ensures { result ≡ counted_with left.now self.entry.total (self.entry.counted + count) }
-    {
-        let counted = self.counted.checked_add(count)?;
-        let allowed = if left.is_empty() {
-            counted == self.total
-        } else {
-            counted <= self.total
-        };
-        if allowed { Some(counted) } else { None }
-    }
+/// The sum of the counts with one more, which is at most the total, and at the last count the total.
+#[inline(always)]
+pub fn counted_with(total: u64, counted: u64, count: u64, left: &[Part]) -> Option<u64>
+    ensures { result ≡ counted_with left.now total (counted + count) }
+{
+    let counted = counted.checked_add(count)?;
+    let allowed = if left.is_empty() {
+        counted == total
+    } else {
+        counted <= total
+    };
+    allowed.then_some(counted)
+}
 
+impl<'a> PartWalk<'a> {
     /// The walk behind a part, before those that are left; None where the record ends or a rule fails in it.
     #[inline(always)]
     pub fn past(self, part: Part, left: &[Part]) -> Option<PartWalk<'a>>
         ensures { IsPast part left.now self.entry result }
     {
         match part {
-            Part::Plain(width) => {
+            Part::Plain(_, width) => {
                 let rest = skip(self.rest, u64::from(width.bytes()))?;
                 Some(PartWalk { rest, ..self })
             }
@@ -107,7 +107,7 @@ impl<'a> PartWalk<'a> {
             }
             Part::Pairs(width, id, value) => {
                 let (count, pairs) = take_number(self.rest, width)?;
-                let counted = self.counted_with(count, left)?;
+                let counted = counted_with(self.total, self.counted, count, left)?;
                 let rest = skip_pairs(pairs, count, id, value)?;
                 Some(PartWalk {
                     counted,
@@ -117,7 +117,7 @@ impl<'a> PartWalk<'a> {
             }
             Part::Triples(width, id, length) => {
                 let (count, triples) = take_number(self.rest, width)?;
-                let counted = self.counted_with(count, left)?;
+                let counted = counted_with(self.total, self.counted, count, left)?;
                 let rest = skip_triples(triples, count, id, length)?;
                 Some(PartWalk {
                     counted,

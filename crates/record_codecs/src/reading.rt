@@ -5,7 +5,7 @@ ghost use Rattle.record_layout.specs.Packet.{IsPacket};
 ghost use Rattle.record_layout.specs.RecordsOf.{records_of};
 ghost use Rattle.avl_values.specs.RecordValue.{RecordValue};
 ghost use Rattle.record_layout.specs.Spelling.{IsRecord};
-ghost use Rattle.record_codecs.specs.Shown.{Shows};
+ghost use Rattle.record_codecs.specs.Shown.{Shows, viewed, codec_of};
 ghost use Rattle.record_codecs.specs.Views.{records_left};
 
 use crate::record_iter::Records;
@@ -28,7 +28,9 @@ pub fn records(body: &[u8]) -> Records<'_>
 
 /// One record, read in place. What the view answers is the record's value where `is_record` holds of the bytes.
 pub fn view(codec: Codec, bytes: &[u8]) -> RecordView<'_>
-    ensures { (v : RecordValue) → IsRecord codec v bytes.now → Shows result v }
+    ensures codec { codec_of result ≡ codec }
+    ensures bytes { viewed result ≡ bytes.now }
+    ensures shows { (v : RecordValue) → IsRecord codec v bytes.now → Shows result v }
 {
     RecordView::new(codec, bytes)
 }

@@ -1,15 +1,16 @@
 //! What one record says.
-ghost use Rattle.std.specs.Prelude.{◌≡◌, ◌<◌, ℕ, take, drop};
+ghost use Rattle.std.specs.Prelude.{◌≡◌, ◌<◌, ◌↔◌, ℕ, IsSome, take, drop};
+ghost use Rattle.avl_values.specs.declared.codec.Codec.TheVariants.{C16};
 ghost use Rattle.avl_values.specs.RecordValue.{RecordValue};
 ghost use Rattle.avl_values.specs.Width.{bytes_of, limit};
 ghost use Rattle.layout.specs.Fields.{number as number_of};
-ghost use Rattle.record_layout.specs.Spelling.{IsRecord};
 ghost use Rattle.record_codecs.specs.Elements.{ios_of};
 ghost use Rattle.record_codecs.specs.Views.{ios_left, nx_left};
-ghost use Rattle.record_codecs.specs.Shown.{Shows, gps_of, generation_of, elements_from};
+ghost use Rattle.record_codecs.specs.Shown.{Shows, codec_of, elements_from, generation_of, gps_of, viewed};
 
-use crate::elements::{Ios, Nxs, after_groups, id_width, split_front, split_number};
+use crate::elements::{Ios, Nxs, after_groups, split_front, split_number};
 use avl_values::{Codec, Gps, Width};
+use record_layout::id_width;
 
 /// A record in a codec, read in place. What it answers is the record's value where its bytes are one record (`is_record`); of
 /// other bytes the answers are of no use.
@@ -41,7 +42,8 @@ fn elements(codec: Codec, bytes: &[u8]) -> &[u8]
 impl<'a> RecordView<'a> {
     /// A record of these bytes.
     pub(crate) fn new(codec: Codec, bytes: &'a [u8]) -> RecordView<'a>
-        ensures { (v : RecordValue) → IsRecord codec v bytes.now → Shows result v }
+        ensures codec { codec_of result ≡ codec }
+        ensures bytes { viewed result ≡ bytes.now }
     {
         RecordView { codec, bytes }
     }
@@ -83,7 +85,8 @@ impl<'a> RecordView<'a> {
 
     /// What made the record, which only Codec 16 says.
     pub fn generation(&self) -> Option<u8>
-        ensures { (v : RecordValue) → Shows self.now v → result ≡ generation_of self.now v }
+        ensures says { (v : RecordValue) → Shows self.now v → result ≡ generation_of self.now v }
+        ensures some { IsSome result ↔ (codec_of self.now ≡ C16) }
     {
         match self.codec {
             Codec::C16 => Some(number_at(self.bytes, 26, Width::W1) as u8),

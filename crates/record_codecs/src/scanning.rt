@@ -1,58 +1,25 @@
 //! The first bytes of a data body, judged.
-ghost use Rattle.std.specs.Prelude.{◌≡◌, ◌≤◌, ◌<◌, ◌^◌, length, IfSome};
+ghost use Rattle.std.specs.Prelude.{◌≡◌, ◌≤◌, ◌<◌, ◌^◌, length, IfOk, IfSome};
 ghost use Rattle.layout.specs.Rows.{whole};
+ghost use Rattle.record_layout.specs.Body.{IsBody};
 ghost use Rattle.record_layout.specs.PacketRows.{packet_verdict};
 ghost use Rattle.record_codecs.specs.FrontRecords.{BeginWithRecords};
 ghost use Rattle.record_codecs.specs.Verdicts.{scan_verdict, read_verdict};
 
-use crate::cursor::{Cursor, Left};
+use crate::place::PacketPlace;
 use crate::record::front_record;
-use crate::verdict::Scan;
-use avl_values::{Codec, Fault, FaultKind};
-use layout::number;
+use avl_values::{Codec, Fault};
 use record_layout::PacketHead;
+
+/// What is known of a data body from its first bytes.
+pub type Scan = field_machine::Scan<PacketHead>;
 
 /// Judges the first bytes of a body of `total` bytes, field by field. Each byte is read once.
 pub fn scan(have: &[u8], total: u32) -> Scan
     requires { length have.now ≤ total }
     ensures { scan_verdict total result ≡ packet_verdict total have.now }
 {
-    let mut cursor = Cursor::Codec;
-    let mut rest = have;
-    let mut place: u32 = 0;
-    'fields: loop {
-        let room = total - place;
-        match cursor.left() {
-            Left::Nothing(head) => {
-                if room > 0 {
-                    return Scan::Broken(Fault {
-                        kind: FaultKind::Excess,
-                        place,
-                    });
-                }
-                return Scan::Whole(head);
-            }
-            Left::Field(width) => {
-                if width > u64::from(room) {
-                    return Scan::Broken(Fault {
-                        kind: FaultKind::Overrun,
-                        place,
-                    });
-                }
-                let width = width as usize;
-                if rest.len() < width {
-                    return Scan::More;
-                }
-                let (field, after) = rest.split_at(width);
-                match cursor.next(number(field)) {
-                    Err(kind) => return Scan::Broken(Fault { kind, place }),
-                    Ok(next) => cursor = next,
-                }
-                rest = after;
-                place += width as u32;
-            }
-        }
-    }
+    field_machine::scan(have, total, PacketPlace::Codec)
 }
 
 // What stands behind so many records at the front of these bytes; None where one of them isn't there whole.
@@ -90,7 +57,8 @@ fn whole_packet(body: &[u8]) -> Option<PacketHead>
 /// only another one field by field.
 pub fn read_packet(body: &[u8]) -> Result<PacketHead, Fault>
     requires { length body.now ≤ 2 ^ 31 }
-    ensures { read_verdict (length body.now) result ≡ packet_verdict (length body.now) body.now }
+    ensures verdict { read_verdict (length body.now) result ≡ packet_verdict (length body.now) body.now }
+    ensures accepted { IfOk result (λ head. IsBody head body.now) }
 {
     match whole_packet(body) {
         Some(head) => Ok(head),

@@ -24,7 +24,7 @@ triples_follow id len (suc n) rows after = ap (λ r. triple_rows id len r) (trip
 pub parts_follow : {V W : Type 0} (ps : List Part) (total counted : ℕ) (rows : Rows V) (after : V → Rows W) → followed_by (parts_rows ps total counted rows) after ≡ parts_rows ps total counted (followed_by rows after)
 unfolding followed_by parts_rows
 parts_follow [] total counted rows after = refl
-parts_follow (Plain w ∷ ps) total counted rows after = ap (λ r. any (bytes_of w) r) (parts_follow ps total counted rows after)
+parts_follow (Plain f w ∷ ps) total counted rows after = ap (λ r. any (bytes_of w) r) (parts_follow ps total counted rows after)
 parts_follow {W = W} (Total w ∷ ps) total counted rows after =
     ap (λ (g : ℕ → Rows W). number_row (bytes_of w) (λ _. None) g) (fun_ext (λ n. parts_follow ps n counted rows after))
 parts_follow {W = W} (Pairs c i w ∷ ps) total counted rows after =

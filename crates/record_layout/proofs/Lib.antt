@@ -1,4 +1,5 @@
 pub mod BodyLaws
+pub mod Exports
 pub mod Fitting
 pub mod Following
 pub mod PacketFills

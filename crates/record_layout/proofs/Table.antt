@@ -49,7 +49,7 @@ fills_number w rule rest v n more fits passes fills =
 -- The rule at each count passes.
 abbrev pub CountsFit : (ps : List Part) → PartValues ps → ℕ → ℕ → Type 0
 CountsFit [] values total counted = Unit {0}
-CountsFit (Plain width ∷ ps) values total counted = CountsFit ps values.1 total counted
+CountsFit (Plain field width ∷ ps) values total counted = CountsFit ps values.1 total counted
 CountsFit (Total width ∷ ps) values total counted = CountsFit ps values.1 values.0 counted
 CountsFit (Pairs count id value ∷ ps) values total counted = (count_rule ps total (counted + length values.0) ≡ None) × CountsFit ps values.1 total (counted + length values.0)
 CountsFit (Triples count id len ∷ ps) values total counted = (count_rule ps total (counted + length values.0) ≡ None) × CountsFit ps values.1 total (counted + length values.0)
@@ -90,7 +90,7 @@ pub parts_fill : {V : Type 0} (ps : List Part) (values : PartValues ps) (total c
     → Fills (parts_rows ps total counted rest) v (joined ps values ++ more)
 unfolding parts_rows
 parts_fill [] values total counted rest v more fit counts fills = fills
-parts_fill (Plain w ∷ ps) values total counted rest v more fit counts fills =
+parts_fill (Plain f w ∷ ps) values total counted rest v more fit counts fills =
     subst (λ b. Fills (any (bytes_of w) (parts_rows ps total counted rest)) v b) (sym (append_assoc (spell w values.0) (joined ps values.1) more))
     (fills_any (bytes_of w) _ v (spell w values.0) _ (length-spell w values.0) (parts_fill ps values.1 total counted rest v more fit.1 counts fills))
 parts_fill (Total w ∷ ps) values total counted rest v more fit counts fills =
@@ -208,7 +208,7 @@ triples_take id len (suc n) rest v bytes p fills =
 pub parts_take : {V : Type 0} (ps : List Part) (total counted : ℕ) (rest : Rows V) (v : V) (bytes : List ℕ) → AreBytes bytes → Fills (parts_rows ps total counted rest) v bytes → Taken ps total counted rest v bytes
 unfolding parts_rows
 parts_take [] total counted rest v bytes p fills = record { values = tt; more = bytes; is = refl; fit = tt; counts = tt; fills = fills }
-parts_take (Plain w ∷ ps) total counted rest v bytes p fills =
+parts_take (Plain f w ∷ ps) total counted rest v bytes p fills =
     let one = row_filled _ _ _ v bytes fills in
     let p1 : AreBytes (one.0 ++ one.1) = subst AreBytes one.2 p in
     let front = bytes-front one.0 one.1 p1 in

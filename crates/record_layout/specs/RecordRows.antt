@@ -27,7 +27,7 @@ triple_rows id len rest = any (bytes_of id) (number_row (bytes_of len) (λ _. No
 -- the parts that are left of a record, with its total and the sum of its counts so far, and what comes after it
 unfoldable pub parts_rows : {V : Type 0} → List Part → ℕ → ℕ → Rows V → Rows V
 parts_rows [] total counted rest = rest
-parts_rows (Plain width ∷ ps) total counted rest = any (bytes_of width) (parts_rows ps total counted rest)
+parts_rows (Plain field width ∷ ps) total counted rest = any (bytes_of width) (parts_rows ps total counted rest)
 parts_rows (Total width ∷ ps) total counted rest = number_row (bytes_of width) (λ _. None) (λ n. parts_rows ps n counted rest)
 parts_rows (Pairs count id value ∷ ps) total counted rest =
     number_row (bytes_of count) (λ n. count_rule ps total (counted + n)) (λ n. times n (pair_rows id value) (parts_rows ps total (counted + n) rest))

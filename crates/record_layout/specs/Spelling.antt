@@ -7,7 +7,10 @@ use Rattle.avl_values.specs.Width.{bytes_of, limit}
 use Rattle.avl_values.specs.declared.codec.Codec.{Codec}
 use Rattle.avl_values.specs.declared.codec.Codec.TheVariants.{C8, C8E, C16}
 use Rattle.avl_values.specs.declared.width.Width.{Width}
+use Rattle.avl_values.specs.declared.width.Width.TheVariants.{W1, W2, W4, W8}
 use Rattle.layout.specs.Bytes.{AreBytes}
+use Rattle.record_layout.specs.declared.part.Field.{Field}
+use Rattle.record_layout.specs.declared.part.Field.TheVariants.{Time, Priority, Longitude, Latitude, Altitude, Angle, Satellites, Speed, Event, Generation}
 use Rattle.record_layout.specs.declared.part.Part.{Part}
 use Rattle.record_layout.specs.declared.part.Part.TheVariants.{Plain, Total, Pairs, Triples}
 use Rattle.record_layout.specs.Table.{parts_of}
@@ -18,7 +21,7 @@ spell width n = bytes_high_first (bytes_of width) n
 
 -- what a part of a record says: a number, pairs of id and value, or pairs of id and bytes
 abbrev pub PartValue : Part → Type 0
-PartValue (Plain width) = ℕ
+PartValue (Plain field width) = ℕ
 PartValue (Total width) = ℕ
 PartValue (Pairs count id value) = List (ℕ × ℕ)
 PartValue (Triples count id len) = List (ℕ × List ℕ)
@@ -35,7 +38,7 @@ triple_bytes id len e = spell id e.0 ++ (spell len (length e.1) ++ e.1)
 
 -- a part's bytes
 abbrev pub part_bytes : (p : Part) → PartValue p → List ℕ
-part_bytes (Plain width) n = spell width n
+part_bytes (Plain field width) n = spell width n
 part_bytes (Total width) n = spell width n
 part_bytes (Pairs count id value) es = spell count (length es) ++ flat_map (pair_bytes id value) es
 part_bytes (Triples count id len) es = spell count (length es) ++ flat_map (triple_bytes id len) es
@@ -47,7 +50,7 @@ joined (p ∷ ps) values = part_bytes p values.0 ++ joined ps values.1
 
 -- each number fits its field
 abbrev pub PartFits : (p : Part) → PartValue p → Type 0
-PartFits (Plain width) n = n < limit width
+PartFits (Plain field width) n = n < limit width
 PartFits (Total width) n = n < limit width
 PartFits (Pairs count id value) es = (length es < limit count) × AllByRecursion (λ e. (e.0 < limit id) × (e.1 < limit value)) es
 PartFits (Triples count id len) es = (length es < limit count) × AllByRecursion (λ e. (e.0 < limit id) × (length e.1 < limit len) × AreBytes e.1) es
@@ -60,83 +63,40 @@ AllFit (p ∷ ps) values = PartFits p values.0 × AllFit ps values.1
 abbrev pub total_of : RecordValue → ℕ
 total_of v = length v.ones + length v.twos + length v.fours + length v.eights + length v.nx
 
--- what the parts of a record in this codec say of the value; coordinates and the altitude are in two's complement
+-- what a number of a record is; coordinates and the altitude are in two's complement
+abbrev pub field_of : Field → RecordValue → ℕ
+field_of Time v = v.time
+field_of Priority v = v.priority
+field_of Longitude v = cast_unsigned w32 v.longitude
+field_of Latitude v = cast_unsigned w32 v.latitude
+field_of Altitude v = cast_unsigned w16 v.altitude
+field_of Angle v = v.angle
+field_of Satellites v = v.satellites
+field_of Speed v = v.speed
+field_of Event v = v.event
+field_of Generation v = v.generation
+
+-- the elements of a width
+abbrev pub elements_of : Width → RecordValue → List (ℕ × ℕ)
+elements_of W1 v = v.ones
+elements_of W2 v = v.twos
+elements_of W4 v = v.fours
+elements_of W8 v = v.eights
+
+-- what a part says of the value
+abbrev pub part_of : (p : Part) → RecordValue → PartValue p
+part_of (Plain field width) v = field_of field v
+part_of (Total width) v = total_of v
+part_of (Pairs count id value) v = elements_of value v
+part_of (Triples count id len) v = v.nx
+
+abbrev pub parts_say : (ps : List Part) → RecordValue → PartValues ps
+parts_say [] v = tt
+parts_say (p ∷ ps) v = (part_of p v, parts_say ps v)
+
+-- what the parts of a record in this codec say of the value
 abbrev pub part_values : (codec : Codec) → RecordValue → PartValues (parts_of codec)
-part_values C8 v = (
-  v.time,
-  (
-    v.priority,
-    (
-      cast_unsigned w32 v.longitude,
-      (
-        cast_unsigned w32 v.latitude,
-        (
-          cast_unsigned w16 v.altitude,
-          (
-            v.angle,
-            (
-              v.satellites,
-              (
-                v.speed,
-                (v.event, (total_of v, (v.ones, (v.twos, (v.fours, (v.eights, tt)))))),
-              ),
-            ),
-          ),
-        ),
-      ),
-    ),
-  ),
-)
-part_values C8E v = (
-  v.time,
-  (
-    v.priority,
-    (
-      cast_unsigned w32 v.longitude,
-      (
-        cast_unsigned w32 v.latitude,
-        (
-          cast_unsigned w16 v.altitude,
-          (
-            v.angle,
-            (
-              v.satellites,
-              (
-                v.speed,
-                (v.event, (total_of v, (v.ones, (v.twos, (v.fours, (v.eights, (v.nx, tt))))))),
-              ),
-            ),
-          ),
-        ),
-      ),
-    ),
-  ),
-)
-part_values C16 v = (
-  v.time,
-  (
-    v.priority,
-    (
-      cast_unsigned w32 v.longitude,
-      (
-        cast_unsigned w32 v.latitude,
-        (
-          cast_unsigned w16 v.altitude,
-          (
-            v.angle,
-            (
-              v.satellites,
-              (
-                v.speed,
-                (v.event, (v.generation, (total_of v, (v.ones, (v.twos, (v.fours, (v.eights, tt))))))),
-              ),
-            ),
-          ),
-        ),
-      ),
-    ),
-  ),
-)
+part_values codec v = parts_say (parts_of codec) v
 
 -- only Codec 8 Extended has elements of any length, and only Codec 16 a generation type
 abbrev pub HasNoOther : Codec → RecordValue → Type 0

@@ -11,4 +11,4 @@ pub use laws::{
     body_is_counted, body_is_whole, no_packet_begins_another, packet_is_whole,
     packet_verdict_stays, records_are_read, whole_is_body, whole_is_packet,
 };
-pub use part::{Part, parts};
+pub use part::{Field, Part, count_width, id_width, parts};

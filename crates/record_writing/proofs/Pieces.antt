@@ -12,13 +12,13 @@ use Rattle.avl_values.specs.declared.codec.Codec.TheVariants.{C8, C8E, C16}
 use Rattle.avl_values.specs.declared.width.Width.{Width}
 use Rattle.avl_values.specs.declared.width.Width.TheVariants.{W1, W2, W4, W8}
 use Rattle.record_layout.specs.Spelling.{spelled, total_of, part_values, AllFit, HasNoOther, IsRecord, spell}
-use Rattle.record_layout.specs.Table.{parts_of}
+use Rattle.record_layout.specs.Table.{count_width, id_width, parts_of}
 use Rattle.record_writing.specs.Refusal.{HasNarrowIds}
 use Rattle.record_writing.proofs.Groups.{triples_count}
 use Rattle.avl_values.specs.NxElements.{nx_size}
 use Rattle.std.proofs.lemmas.List.Sums.{sum_by-cons}
 use Rattle.record_writing.specs.Length.{record_length, pairs_length, ios_length, shortest_length}
-use Rattle.record_writing.specs.Pieces.{head_bytes, HeadFits, event_bytes, event_length, EventFits, group_bytes, elements_bytes, elements_length, ElementsFit, id_width, count_width, nx_bytes}
+use Rattle.record_writing.specs.Pieces.{head_bytes, HeadFits, event_bytes, event_length, EventFits, group_bytes, elements_bytes, elements_length, ElementsFit, nx_bytes}
 
 -- each element has one of the four widths
 one_more : (w : Width) (a b c d : List (ℕ × ℕ)) (e : ℕ × ℕ)

@@ -20,7 +20,7 @@ abbrev pub triples_length : Width → Width → List (ℕ × List ℕ) → ℕ
 triples_length id len es = sum_by (λ e. bytes_of id + bytes_of len + length e.1) es
 
 abbrev pub part_length : (p : Part) → PartValue p → ℕ
-part_length (Plain width) n = bytes_of width
+part_length (Plain field width) n = bytes_of width
 part_length (Total width) n = bytes_of width
 part_length (Pairs count id value) es = bytes_of count + pairs_length id value es
 part_length (Triples count id len) es = bytes_of count + triples_length id len es

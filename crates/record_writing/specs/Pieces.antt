@@ -13,18 +13,8 @@ use Rattle.avl_values.specs.declared.width.Width.{Width}
 use Rattle.avl_values.specs.declared.width.Width.TheVariants.{W1, W2, W4, W8}
 use Rattle.record_layout.specs.Spelling.{spell, part_bytes, PartFits}
 use Rattle.record_layout.specs.declared.part.Part.TheVariants.{Pairs, Triples}
+use Rattle.record_layout.specs.Table.{count_width, id_width}
 use Rattle.record_writing.specs.Length.{part_length}
-
--- ids have one byte in Codec 8 and two in the others, counts two in Codec 8 Extended and one in the others
-abbrev pub id_width : Codec → Width
-id_width C8 = W1
-id_width C8E = W2
-id_width C16 = W2
-
-abbrev pub count_width : Codec → Width
-count_width C8 = W1
-count_width C8E = W2
-count_width C16 = W1
 
 -- The head, in which coordinates and the altitude are in two's complement.
 

@@ -6,6 +6,7 @@ ghost use Rattle.record_writing.specs.Room.{HasRoomFor};
 
 use arrayvec::ArrayVec;
 use avl_values::Codec;
+use layout::put_all;
 use std::marker::Model;
 
 /// A tracker's data body while it is made, seen as its codec and its records so far (Teltonika, Data Sending Protocols, data
@@ -42,9 +43,9 @@ impl Body {
         }
     }
 
-    #[tactic(auto, using(crate::proofs::Bodies::one_more, crate::proofs::Bodies::body_length, crate::proofs::Bodies::how_many))]
     /// Adds a record of the body's codec at the end; false, with nothing changed, exactly where it would be the 256th record or
     /// the whole body, with its last byte, would have more than 1,268 bytes.
+    #[tactic(auto, using(crate::proofs::Bodies::one_more, crate::proofs::Bodies::body_length, crate::proofs::Bodies::how_many))]
     pub fn push(&mut self, bytes: &[u8]) -> bool
         requires { IsSomeRecord self.old.codec bytes.now }
         ensures room { IsTrue result ↔ HasRoomFor self.old bytes.now }
@@ -69,7 +70,7 @@ impl Body {
         let mut out = ArrayVec::new();
         out.push(self.codec.id());
         out.push(self.count);
-        let _added = out.try_extend_from_slice(self.bytes.as_slice());
+        put_all(&mut out, self.bytes.as_slice());
         out.push(self.count);
         out
     }

@@ -1,31 +1,10 @@
 //! What a codec has.
-ghost use Rattle.std.specs.Prelude.{◌≡◌, ◌<◌, ◌↔◌, [], IsTrue, All};
+ghost use Rattle.std.specs.Prelude.{◌<◌, ◌↔◌, [], IsTrue, All};
 ghost use Rattle.avl_values.specs.RecordValue.{value_of};
 ghost use Rattle.record_layout.specs.Spelling.{HasNoOther};
-ghost use Rattle.record_writing.specs.Pieces.{count_width, id_width};
 ghost use Rattle.record_writing.specs.Refusal.{HasNarrowIds};
 
-use avl_values::{AvlRecord, Codec, Io, Width};
-
-/// The width of I/O elements' ids in this codec: 1 byte in Codec 8, 2 in the others.
-pub fn id_width(codec: Codec) -> Width
-    ensures { result ≡ id_width codec }
-{
-    match codec {
-        Codec::C8 => Width::W1,
-        Codec::C8E | Codec::C16 => Width::W2,
-    }
-}
-
-/// The width of counts of elements in this codec.
-pub fn count_width(codec: Codec) -> Width
-    ensures { result ≡ count_width codec }
-{
-    match codec {
-        Codec::C8E => Width::W2,
-        Codec::C8 | Codec::C16 => Width::W1,
-    }
-}
+use avl_values::{AvlRecord, Codec, Io};
 
 /// Whether the value says nothing that the codec doesn't have: elements of any length, or a generation type.
 pub fn is_in_codec(codec: Codec, value: &AvlRecord) -> bool

@@ -5,8 +5,8 @@ ghost use Rattle.avl_values.specs.RecordValue.{value_of};
 ghost use Rattle.record_layout.specs.Spelling.{HasNoOther};
 ghost use Rattle.record_writing.specs.Length.{ios_length, record_length, shortest_length};
 
-use crate::codec::id_width;
 use avl_values::{AvlRecord, Codec, Io, NxList, Width};
+use record_layout::id_width;
 
 /// The bytes of a record without elements: 30, 38 and 32 in Codec 8, Codec 8 Extended and Codec 16.
 pub fn shortest_length(codec: Codec) -> usize

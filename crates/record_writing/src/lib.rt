@@ -9,7 +9,6 @@ mod put;
 mod writing;
 
 pub use body::Body;
-pub use codec::id_width;
 pub use length::shortest_length;
 pub use writing::{WriteFault, write_record};
 

@@ -13,15 +13,7 @@ ghost use Rattle.record_writing.specs.Length.{pairs_length, part_length, triples
 
 use arrayvec::ArrayVec;
 use avl_values::{Io, NxList, Width};
-
-fn put_all(out: &mut ArrayVec<u8, 255>, bytes: &[u8])
-    requires { array_vec_len out.old + length bytes.now ≤ 255 }
-    ensures bytes { out.new.items ≡ out.old.items ++ bytes.now }
-    ensures len { array_vec_len out.new ≡ array_vec_len out.old + length bytes.now }
-    ensures fit { AreBytes bytes.now }
-{
-    let _added = out.try_extend_from_slice(bytes);
-}
+use layout::put_all;
 
 /// A number in so many bytes.
 pub fn put(out: &mut ArrayVec<u8, 255>, width: Width, n: u64)

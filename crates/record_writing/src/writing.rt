@@ -4,16 +4,18 @@ ghost use Rattle.arrayvec.specs.ArrayVec.{array_vec_len};
 ghost use Rattle.avl_values.specs.RecordValue.{value_of};
 ghost use Rattle.avl_values.specs.declared.width.Width.TheVariants.{W1};
 ghost use Rattle.record_layout.specs.Spelling.{HasNoOther, IsRecord};
+ghost use Rattle.record_layout.specs.Table.{id_width};
 ghost use Rattle.record_writing.specs.Length.{record_length};
-ghost use Rattle.record_writing.specs.Pieces.{id_width, count_width, gps_bytes, GpsFits, head_bytes, HeadFits, generation_bytes, event_bytes, event_length, EventFits, groups_bytes, groups_length, GroupsFit, elements_bytes, elements_length, ElementsFit};
+ghost use Rattle.record_writing.specs.Pieces.{gps_bytes, GpsFits, head_bytes, HeadFits, generation_bytes, event_bytes, event_length, EventFits, groups_bytes, groups_length, GroupsFit, elements_bytes, elements_length, ElementsFit};
 ghost use Rattle.record_writing.specs.Checks.{Checks};
 ghost use Rattle.record_writing.specs.Refusal.{HasNarrowIds};
 
-use crate::codec::{count_width, has_narrow_ids, id_width, is_in_codec};
+use crate::codec::{has_narrow_ids, is_in_codec};
 use crate::length::has_room;
 use crate::put::{put, put_group, put_nx};
 use arrayvec::ArrayVec;
 use avl_values::{AvlRecord, Codec, Gps, Io, Width};
+use record_layout::{count_width, id_width};
 
 /// Why a record isn't written.
 #[derive(Clone, Copy, Debug, PartialEq, Eq)]
@@ -102,8 +104,8 @@ fn put_elements(out: &mut ArrayVec<u8, 255>, codec: Codec, value: &AvlRecord)
     }
 }
 
-#[tactic(auto, using(crate::proofs::Pieces::length_pieces))]
 /// A whole record, of a value that the codec has and that has room.
+#[tactic(auto, using(crate::proofs::Pieces::length_pieces))]
 fn put_record(out: &mut ArrayVec<u8, 255>, codec: Codec, value: &AvlRecord)
     requires empty { out.old.items ≡ [] }
     requires room { record_length codec (value_of value.now) ≤ 255 }

@@ -1,12 +1,11 @@
 -- Calls in a row: joined, told by who admits, and what they leave of a shelf.
-use Rattle.std.proofs.Common.{◌≡◌, ◌⊎◌, inl, inr, ℕ, ◌<◌, ◌≤◌, Bool, true, false, List, [], ◌∷◌, ◌++◌, map, Option, Some, None, Result, Ok, Err, sym, ◌∙◌, ap, refl, subst, arith, append_assoc}
+use Rattle.std.proofs.Common.{◌≡◌, ℕ, ◌≤◌, Bool, true, false, List, [], ◌∷◌, ◌++◌, map, Option, Some, None, Result, Ok, Err, sym, ◌∙◌, ap, refl, subst, arith, append_assoc}
 use Rattle.std.proofs.lemmas.List.{append-nil}
 use Rattle.avl_values.specs.Causes.{IsAbove}
 use Rattle.avl_values.specs.Record.{Record}
-use Rattle.record_layout.specs.RecordsOf.{records_of}
 use Rattle.shelf.specs.Archive.{StoredValue}
-use Rattle.shelf.specs.Admits.{Shelved, Answer, answer_of, list_after, down_after, Fits, Counts, Admits}
-use Rattle.shelf.specs.Calls.{Call, Feeds, AreStored, Mark, Brought, brought, brought_by, with_calls, TellsCall, replay, down_by, IsLegal}
+use Rattle.shelf.specs.Admits.{Shelved, Answer, list_after, down_after, Fits, Counts, Admits}
+use Rattle.shelf.specs.Calls.{Call, Feeds, AreStored, Mark, Brought, brought, with_calls, TellsCall, replay, down_by, IsLegal}
 use Rattle.shelf.specs.Histories.{IsCounted, AreCounted, IsLegalFor, StandsFor}
 use Rattle.shelf.specs.Shelf.{ShelfView, front, Leaves}
 use Rattle.shelf.specs.declared.receipt.Receipt.{Receipt}

@@ -1,13 +1,13 @@
 -- What the record list and the images of a shelf keep to, whatever is answered.
-use Rattle.std.proofs.Common.{◌≡◌, inl, inr, ℕ, Bool, true, false, ◌==◌, if◌then◌else◌, List, [], ◌∷◌, ◌++◌, length, map, slice_get, Option, Some, None, Result, sym, ◌∙◌, ap, refl, subst, arith, append_assoc}
-use Rattle.std.proofs.lemmas.Option.{slice_get_within, none-some}
+use Rattle.std.proofs.Common.{◌≡◌, ℕ, Bool, true, false, ◌==◌, if◌then◌else◌, List, [], ◌∷◌, ◌++◌, map, Option, Some, None, Result, sym, ◌∙◌, ap, refl, subst, append_assoc}
+use Rattle.std.proofs.lemmas.Option.{none-some}
 use Rattle.avl_values.specs.Record.{Record}
 use Rattle.medium_model.specs.Content.{Content, settled}
 use Rattle.medium_model.specs.Images.{unchanged, changed}
 use Rattle.medium_model.specs.Images as images
 use Rattle.medium_model.specs.PowerLoss.{IsImage, EveryImage}
 use Rattle.medium_model.specs.State.{IfTold}
-use Rattle.medium_model.proofs.Images.{every-map, image-settled, settled-image}
+use Rattle.medium_model.proofs.Images.{every-map, settled-image}
 use Rattle.record_layout.specs.RecordsOf.{records_of}
 use Rattle.archive_journal.specs.Body.{EntryValue}
 use Rattle.archive_journal.specs.Entries.{entries_of}
@@ -16,7 +16,7 @@ use Rattle.shelf.specs.Archive.{StoredValue, stored, has, add, admitted, fresh, 
 use Rattle.shelf.specs.Shelf.{ShelfView, IsDurable, HasList, ListsEither, new_entry, Leaves}
 use Rattle.shelf.specs.declared.receipt.Receipt.{Receipt}
 use Rattle.shelf.specs.declared.receipt.AdmitFault.{AdmitFault}
-use Rattle.shelf.proofs.Lists.{get-cases, place-has}
+use Rattle.shelf.proofs.Lists.{once-none, once-more}
 use Rattle.shelf.proofs.Leaving.{admitted-fresh, fresh-again, listed-more}
 
 -- A record list has each record of a device once.
@@ -24,24 +24,9 @@ use Rattle.shelf.proofs.Leaving.{admitted-fresh, fresh-again, listed-more}
 once-add : (list : List StoredValue) (imei : ℕ) (r : Record) → IsOnce list → IsOnce (add list imei r)
 once-add list imei r once = split (has list imei r) refl
   where
-    never : has list imei r ≡ false → (p : ℕ) → slice_get list p ≡ Some (stored imei r) → ⊥
-    never new p at = (let known = place-has list imei r p at in absurd (let no : false ≡ true = sym new ∙ known in cc))
-
-    grown : has list imei r ≡ false → IsOnce (list ++ stored imei r ∷ [])
-    grown new p q s at_p at_q = elim (get-cases list (stored imei r) p s at_p) as (λ _. p ≡ q) [
-      | inl low_p ↦ elim (get-cases list (stored imei r) q s at_q) as (λ _. p ≡ q) [
-        | inl low_q ↦ once p q s low_p low_q
-        | inr last_q ↦ absurd (never new p (low_p ∙ ap Some last_q.1))
-      ]
-      | inr last_p ↦ elim (get-cases list (stored imei r) q s at_q) as (λ _. p ≡ q) [
-        | inl low_q ↦ absurd (never new q (low_q ∙ ap Some last_p.1))
-        | inr last_q ↦ last_p.0 ∙ sym last_q.0
-      ]
-    ]
-
     split : (b : Bool) → has list imei r ≡ b → IsOnce (add list imei r)
     split true known = let P : Bool → Type 0 = λ b. IsOnce (if b then list else list ++ stored imei r ∷ []) in subst P (sym known) once
-    split false new = let P : Bool → Type 0 = λ b. IsOnce (if b then list else list ++ stored imei r ∷ []) in subst P (sym new) (grown new)
+    split false new = let P : Bool → Type 0 = λ b. IsOnce (if b then list else list ++ stored imei r ∷ []) in subst P (sym new) (once-more list imei r new once)
 
 pub once-admitted : (list : List StoredValue) (imei : ℕ) (rs : List Record) → IsOnce list → IsOnce (admitted list imei rs)
 once-admitted list imei [] once = once
@@ -50,9 +35,6 @@ once-admitted list imei (r ∷ rs) once = once-admitted (add list imei r) imei r
 once-listed : (list : List StoredValue) (es : List EntryValue) → IsOnce list → IsOnce (listed list es)
 once-listed list [] once = once
 once-listed list (e ∷ es) once = once-listed (admitted list e.imei e.records) es (once-admitted list e.imei e.records once)
-
-once-none : IsOnce []
-once-none p q s at_p at_q = absurd (let low = slice_get_within [] p s at_p in omega arith)
 
 pub list_of-once : (es : List EntryValue) → IsOnce (list_of es)
 list_of-once es = once-listed [] es once-none

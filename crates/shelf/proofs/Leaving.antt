@@ -1,6 +1,6 @@
 -- What each exit of `admit` leaves.
-use Rattle.std.proofs.Common.{◌≡◌, inl, inr, ℕ, ◌-◌, ◌<◌, ◌≤◌, Bool, true, false, if◌then◌else◌, List, [], ◌∷◌, ◌++◌, length, take, drop, map, Option, Some, None, Ok, Err, sym, ◌∙◌, ap, refl, subst, arith, length-append, append_assoc}
-use Rattle.std.proofs.lemmas.List.{append-nil, length-map, take_at, drop_at, take_rest}
+use Rattle.std.proofs.Common.{◌≡◌, inl, inr, ℕ, ◌<◌, ◌≤◌, Bool, true, false, if◌then◌else◌, List, [], ◌∷◌, ◌++◌, length, take, drop, map, Option, Some, None, Ok, Err, sym, ◌∙◌, ap, refl, subst, arith, length-append, append_assoc}
+use Rattle.std.proofs.lemmas.List.{append-nil, length-map, take_at, drop_at}
 use Rattle.std.proofs.lemmas.Bool.{cases_lt}
 use Rattle.avl_values.specs.Causes.{Rose}
 use Rattle.avl_values.specs.Record.{Record}
@@ -14,12 +14,10 @@ use Rattle.archive_journal.specs.Body.{EntryValue}
 use Rattle.archive_journal.specs.Entries.{entries_of}
 use Rattle.archive_journal.specs.Journal.{JournalView, EachHolds, HoldsWith, IsEither, IsTold, entries_told, with_entry}
 use Rattle.archive_journal.specs.Journal as journal
-use Rattle.shelf.specs.Archive.{StoredValue, stored, has, add, admitted, fresh, listed, list_of, ArePlaces, Begins}
-use Rattle.shelf.specs.Index.{Keyed, IsComplete}
+use Rattle.shelf.specs.Archive.{StoredValue, stored, has, add, admitted, fresh, listed, list_of, ArePlaces}
 use Rattle.shelf.specs.Shelf.{ShelfView, Lists, IsDurable, HasList, IsShelf, new_entry, calls_for, recs_of, Leaves}
 use Rattle.shelf.specs.declared.receipt.Receipt.{Receipt}
 use Rattle.shelf.specs.declared.receipt.AdmitFault.TheVariants.{Down, NoMemory, MediumFault}
-use Rattle.shelf.proofs.Lists.{complete-front}
 
 -- The list after a packet.
 
@@ -56,11 +54,11 @@ recs-again : (imei : ℕ) (rs : List Record) → recs_of (map (stored imei) rs) 
 recs-again imei [] = refl
 recs-again imei (r ∷ rs) = ap (λ (l : List Record). r ∷ l) (recs-again imei rs)
 
-pub behind : (list staged : List StoredValue) (known : ℕ) (imei : ℕ) (rs : List Record) → known ≡ length list → staged ≡ admitted list imei rs → recs_of (take (length staged - known) (drop known staged)) ≡ fresh list imei rs
+pub behind : (list staged : List StoredValue) (known imei : ℕ) (rs : List Record) → known ≡ length list → staged ≡ admitted list imei rs → recs_of (drop known staged) ≡ fresh list imei rs
 behind list staged known imei rs at is =
     let new = fresh list imei rs in
     let all : staged ≡ list ++ map (stored imei) new = is ∙ admitted-fresh list imei rs in
-    ap recs_of (take_rest staged known ∙ ap (drop known) all ∙ drop_at list (map (stored imei) new) known (sym at)) ∙ recs-again imei new
+    ap recs_of (ap (drop known) all ∙ drop_at list (map (stored imei) new) known (sym at)) ∙ recs-again imei new
 
 pub no_more : (list staged : List StoredValue) (imei : ℕ) (rs : List Record) → length staged ≡ length list → staged ≡ admitted list imei rs → fresh list imei rs ≡ []
 no_more list staged imei rs same is =
@@ -72,14 +70,8 @@ no_more list staged imei rs same is =
     empty [] none = refl
     empty (x ∷ xs) none = absurd (omega arith)
 
-pub cut-is : (list staged cut : List StoredValue) (known : ℕ) → Begins list staged → known ≡ length list → cut ≡ take known staged → cut ≡ list
-cut-is list staged cut known b at is = is ∙ ap (take known) b.is ∙ take_at list b.more known (sym at)
-
-pub begins-cut : (list staged cut : List StoredValue) → Begins list staged → cut ≡ list → Begins cut staged
-begins-cut list staged cut b is = record { more = b.more; is = b.is ∙ ap (λ (l : List StoredValue). l ++ b.more) (sym is) }
-
-pub complete-cut : (cut staged : List StoredValue) (index : List (Keyed × ℕ)) → Begins cut staged → IsComplete staged index → IsComplete cut index
-complete-cut cut staged index b is = let P : List StoredValue → Type 0 = λ l. IsComplete l index in complete-front cut b.more index (subst P b.is is)
+pub cut-is : (list staged cut : List StoredValue) (known imei : ℕ) (rs : List Record) → known ≡ length list → staged ≡ admitted list imei rs → cut ≡ take known staged → cut ≡ list
+cut-is list staged cut known imei rs at is cut_at = cut_at ∙ ap (take known) (is ∙ admitted-fresh list imei rs) ∙ take_at list (map (stored imei) (fresh list imei rs)) known (sym at)
 
 -- The images of a journal.
 
@@ -113,8 +105,8 @@ images-unchanged j more durable = every-map j.medium.content _ _ (λ image held.
 abbrev pub view : MediumState → List StoredValue → Bool → ℕ → ShelfView
 view m list down opened = record { medium = m; list = list; down = down; opened = opened }
 
-pub durable-shelf : (j : JournalView) (list : List StoredValue) (places : List (Keyed × ℕ)) (down : Bool) (opened : ℕ) → IsShelf j list places down opened → down ≡ false → IsDurable (view j.medium list down opened)
-durable-shelf j list places down opened is up =
+pub durable-shelf : (j : JournalView) (list : List StoredValue) (down : Bool) (opened : ℕ) → IsShelf j list down opened → down ≡ false → IsDurable (view j.medium list down opened)
+durable-shelf j list down opened is up =
     let durable = is.up up in
     record {
       up = up;
@@ -125,62 +117,54 @@ durable-shelf j list places down opened is up =
     }
 
 -- nothing was kept, and the list is as it was
-pub shelf-cut : (j k : JournalView) (list staged cut : List StoredValue) (places later : List (Keyed × ℕ)) (down : Bool) (opened : ℕ) → IsShelf j list places down opened → down ≡ false
-    → Begins list staged → IsComplete staged later → cut ≡ list → journal.IsDurable k → k.medium.content ≡ j.medium.content → j.medium.faults ≤ k.medium.faults
-    → IsShelf k cut later down opened
-shelf-cut j k list staged cut places later down opened is up b complete same durable content faults =
+pub shelf-cut : (j k : JournalView) (list cut : List StoredValue) (down : Bool) (opened : ℕ) → IsShelf j list down opened → down ≡ false
+    → cut ≡ list → journal.IsDurable k → k.medium.content ≡ j.medium.content → j.medium.faults ≤ k.medium.faults → IsShelf k cut down opened
+shelf-cut j k list cut down opened is up same durable content faults =
     let P : List StoredValue → Type 0 = λ l. IfTold k.medium.content (HasList l) in
     let opened_low = is.later in
     record {
       up = λ _. durable;
       lists = λ _. subst P (sym same) (lists-same j.medium.content k.medium.content list content (is.lists up));
-      index = complete-cut cut staged later (begins-cut list staged cut b same) complete;
       later = omega arith;
       fell = λ fallen. absurd (let never : false ≡ true = sym up ∙ fallen in cc);
     }
 
 -- a medium fault took it down
-pub shelf-fell : (j k : JournalView) (list staged cut : List StoredValue) (places later : List (Keyed × ℕ)) (down : Bool) (opened : ℕ) → IsShelf j list places down opened
-    → Begins list staged → IsComplete staged later → cut ≡ list → j.medium.faults ≤ k.medium.faults → Rose j.medium.faults k.medium.faults
-    → IsShelf k cut later true opened
-shelf-fell j k list staged cut places later down opened is b complete same faults rose =
+pub shelf-fell : (j k : JournalView) (list cut : List StoredValue) (down : Bool) (opened : ℕ) → IsShelf j list down opened → j.medium.faults ≤ k.medium.faults → Rose j.medium.faults k.medium.faults
+    → IsShelf k cut true opened
+shelf-fell j k list cut down opened is faults rose =
     let opened_low = is.later in
     record {
       up = λ up. absurd (let never : false ≡ true = sym up in cc);
       lists = λ up. absurd (let never : false ≡ true = sym up in cc);
-      index = complete-cut cut staged later (begins-cut list staged cut b same) complete;
       later = omega arith;
       fell = λ _. omega arith;
     }
 
 -- an entry was kept
-pub shelf-kept : (j k : JournalView) (list staged : List StoredValue) (places later : List (Keyed × ℕ)) (down : Bool) (opened imei : ℕ) (rs new : List Record) → IsShelf j list places down opened → down ≡ false
-    → IsComplete staged later → staged ≡ admitted list imei rs → new ≡ fresh list imei rs → entries_told k.medium.content ≡ with_entry (record { imei = imei; records = new }) (entries_told j.medium.content)
-    → journal.IsDurable k → j.medium.faults ≤ k.medium.faults → IsShelf k staged later down opened
-shelf-kept j k list staged places later down opened imei rs new is up complete staged_is new_is entries durable faults =
+pub shelf-kept : (j k : JournalView) (list staged : List StoredValue) (down : Bool) (opened imei : ℕ) (rs new : List Record) → IsShelf j list down opened → down ≡ false
+    → staged ≡ admitted list imei rs → new ≡ fresh list imei rs → entries_told k.medium.content ≡ with_entry (record { imei = imei; records = new }) (entries_told j.medium.content)
+    → journal.IsDurable k → j.medium.faults ≤ k.medium.faults → IsShelf k staged down opened
+shelf-kept j k list staged down opened imei rs new is up staged_is new_is entries durable faults =
     let opened_low = is.later in
     let P : List StoredValue → Type 0 = λ l. IfTold k.medium.content (HasList l) in
     let all : admitted list imei new ≡ staged = ap (λ (l : List Record). admitted list imei l) new_is ∙ fresh-again list imei rs ∙ sym staged_is in
     record {
       up = λ _. durable;
       lists = λ _. subst P all (lists-more j.medium.content k.medium.content list (record { imei = imei; records = new }) (is.lists up) entries);
-      index = complete;
       later = omega arith;
       fell = λ fallen. absurd (let never : false ≡ true = sym up ∙ fallen in cc);
     }
 
--- the packet has nothing new
-pub shelf-same : (j : JournalView) (list staged : List StoredValue) (places later : List (Keyed × ℕ)) (down : Bool) (opened : ℕ) → IsShelf j list places down opened → IsComplete staged later → staged ≡ list
-    → IsShelf j staged later down opened
-shelf-same j list staged places later down opened is complete same =
-    let P : List StoredValue → Type 0 = λ l. IfTold j.medium.content (HasList l) in
-    record { up = is.up; lists = λ up. subst P (sym same) (is.lists up); index = complete; later = is.later; fell = is.fell }
+-- the list is as it was
+pub shelf-same : (j : JournalView) (list staged : List StoredValue) (down : Bool) (opened : ℕ) → IsShelf j list down opened → staged ≡ list → IsShelf j staged down opened
+shelf-same j list staged down opened is same = let P : List StoredValue → Type 0 = λ l. IsShelf j l down opened in subst P (sym same) is
 
 pub nothing-staged : (list staged : List StoredValue) (imei : ℕ) (rs : List Record) → length staged ≡ length list → staged ≡ admitted list imei rs → staged ≡ list
 nothing-staged list staged imei rs same is =
     is ∙ admitted-fresh list imei rs ∙ ap (λ (l : List Record). list ++ map (stored imei) l) (no_more list staged imei rs same is) ∙ append-nil list
 
-module _ (j : JournalView) (list : List StoredValue) (places : List (Keyed × ℕ)) (down : Bool) (opened imei : ℕ) (body : List ℕ) (is : IsShelf j list places down opened) where
+module _ (j : JournalView) (list : List StoredValue) (down : Bool) (opened imei : ℕ) (body : List ℕ) (is : IsShelf j list down opened) where
   pub leaves-down : (faults : ℕ) → down ≡ true → faults ≡ j.medium.faults → Leaves (view j.medium list down opened) imei body (Err (Down faults)) (view j.medium list down opened)
   leaves-down faults fallen count = record {
     admits = record { list = refl; down = refl; fits = fallen; counts = (count, refl) };
@@ -193,18 +177,18 @@ module _ (j : JournalView) (list : List StoredValue) (places : List (Keyed × �
     counted = counted-none j.medium;
   }
 
-  module _ (up : down ≡ false) (k : JournalView) (later : List (Keyed × ℕ)) where
+  module _ (up : down ≡ false) (k : JournalView) where
     never_down : {P : Type 0} → down ≡ true → P
     never_down fallen = absurd (let never : false ≡ true = sym up ∙ fallen in cc)
 
-    pub leaves-none : (cut : List StoredValue) → cut ≡ list → IsShelf k cut later down opened → k.medium.content ≡ j.medium.content → Counted 0 j.medium k.medium ⊥
+    pub leaves-none : (cut : List StoredValue) → cut ≡ list → IsShelf k cut down opened → k.medium.content ≡ j.medium.content → Counted 0 j.medium k.medium ⊥
         → Leaves (view j.medium list down opened) imei body (Err NoMemory) (view k.medium cut down opened)
     leaves-none cut same after content counted =
         let P : Option Content → Type 0 = λ o. EveryImage o (HoldsWith (IsEither (entries_told j.medium.content) (with_entry (new_entry list imei (records_of body)) (entries_told j.medium.content)))) in
         record {
           admits = record { list = same; down = refl; fits = up; counts = counted.later };
           opened = refl;
-          durable = durable-shelf k cut later down opened after;
+          durable = durable-shelf k cut down opened after;
           fell = after.fell;
           images = λ _. subst P (sym content) (images-unchanged j _ (is.up up));
           untouched = never_down;
@@ -213,14 +197,14 @@ module _ (j : JournalView) (list : List StoredValue) (places : List (Keyed × �
         }
 
     pub leaves-nothing : (staged : List StoredValue) (receipt : Receipt) → staged ≡ admitted list imei (records_of body) → ArePlaces staged imei (records_of body) receipt.places.items
-        → IsShelf j staged later down opened → fresh list imei (records_of body) ≡ [] → Leaves (view j.medium list down opened) imei body (Ok receipt) (view j.medium staged down opened)
+        → IsShelf j staged down opened → fresh list imei (records_of body) ≡ [] → Leaves (view j.medium list down opened) imei body (Ok receipt) (view j.medium staged down opened)
     leaves-nothing staged receipt staged_is placed after none =
         let P : List StoredValue → Type 0 = λ l. ArePlaces l imei (records_of body) receipt.places.items in
         let Q : List Record → Type 0 = λ l. Counted (calls_for l) j.medium j.medium ⊥ in
         record {
           admits = record { list = staged_is; down = refl; fits = (up, subst P staged_is placed); counts = omega arith };
           opened = refl;
-          durable = durable-shelf j staged later down opened after;
+          durable = durable-shelf j staged down opened after;
           fell = after.fell;
           images = λ _. images-unchanged j _ (is.up up);
           untouched = never_down;
@@ -229,7 +213,7 @@ module _ (j : JournalView) (list : List StoredValue) (places : List (Keyed × �
         }
 
     pub leaves-kept : (staged : List StoredValue) (receipt : Receipt) (new : List Record) → staged ≡ admitted list imei (records_of body) → ArePlaces staged imei (records_of body) receipt.places.items
-        → IsShelf k staged later down opened → new ≡ fresh list imei (records_of body) → calls_for (fresh list imei (records_of body)) ≡ 4
+        → IsShelf k staged down opened → new ≡ fresh list imei (records_of body) → calls_for (fresh list imei (records_of body)) ≡ 4
         → EachHolds k.medium (IsEither (entries_told j.medium.content) (with_entry (record { imei = imei; records = new }) (entries_told j.medium.content)))
         → Counted 4 j.medium k.medium ⊥ → Leaves (view j.medium list down opened) imei body (Ok receipt) (view k.medium staged down opened)
     leaves-kept staged receipt new staged_is placed after new_is four images counted =
@@ -239,7 +223,7 @@ module _ (j : JournalView) (list : List StoredValue) (places : List (Keyed × �
         record {
           admits = record { list = staged_is; down = refl; fits = (up, subst P staged_is placed); counts = counted.later };
           opened = refl;
-          durable = durable-shelf k staged later down opened after;
+          durable = durable-shelf k staged down opened after;
           fell = after.fell;
           images = λ _. subst R new_is images;
           untouched = never_down;
@@ -247,7 +231,7 @@ module _ (j : JournalView) (list : List StoredValue) (places : List (Keyed × �
           counted = subst Q (sym four) counted;
         }
 
-    pub leaves-fault : (cut : List StoredValue) (new : List Record) (faults : ℕ) → cut ≡ list → IsShelf k cut later true opened → new ≡ fresh list imei (records_of body) → calls_for (fresh list imei (records_of body)) ≡ 4 → faults ≡ k.medium.faults
+    pub leaves-fault : (cut : List StoredValue) (new : List Record) (faults : ℕ) → cut ≡ list → IsShelf k cut true opened → new ≡ fresh list imei (records_of body) → calls_for (fresh list imei (records_of body)) ≡ 4 → faults ≡ k.medium.faults
         → EachHolds k.medium (IsEither (entries_told j.medium.content) (with_entry (record { imei = imei; records = new }) (entries_told j.medium.content)))
         → Counted 4 j.medium k.medium (Unit {0}) → Leaves (view j.medium list down opened) imei body (Err (MediumFault faults)) (view k.medium cut true opened)
     leaves-fault cut new faults same after new_is four count images counted =

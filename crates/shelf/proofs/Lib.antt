@@ -1,11 +1,11 @@
-pub mod Keys
 pub mod Lists
+pub mod Indexed
+pub mod Counted
+pub mod Listed
 pub mod Stages
 pub mod Leaving
 pub mod Making
 pub mod Opening
-pub mod Heads
-pub mod Counting
 pub mod Histories
 pub mod Laws
 pub mod Members

@@ -1,14 +1,13 @@
 -- Which records a list has behind a history, and which calls of a history are under some numbers.
-use Rattle.std.proofs.Common.{◌≡◌, ◌⊎◌, inl, inr, ℕ, zero, suc, ◌+◌, ◌==◌, ◌<◌, ◌≤◌, Bool, true, false, List, [], ◌∷◌, ◌++◌, length, map, slice_get, Some, Ok, Err, if◌then◌else◌, sym, ◌∙◌, ap, refl, subst, arith, append_assoc}
+use Rattle.std.proofs.Common.{◌≡◌, ◌⊎◌, inl, inr, ℕ, zero, suc, ◌+◌, ◌==◌, ◌<◌, ◌≤◌, Bool, true, false, List, [], ◌∷◌, ◌++◌, length, map, slice_get, Some, Ok, Err, if◌then◌else◌, sym, ◌∙◌, ap, refl, subst, arith}
 use Rattle.std.proofs.lemmas.Bool.Decides.{nat_tests}
-use Rattle.std.proofs.lemmas.List.{append-nil}
 use Rattle.std.proofs.lemmas.Option.{slice_get_within}
 use Rattle.avl_values.specs.Record.{Record}
 use Rattle.shelf.specs.Archive.{StoredValue, stored, has, admitted, fresh, ArePlaces, Begins}
 use Rattle.shelf.specs.Admits.{Answer, list_after, down_after, Fits}
 use Rattle.shelf.specs.Calls.{Brought, replay, IsLegal}
 use Rattle.shelf.specs.Histories.{In, HasPlaces}
-use Rattle.shelf.specs.Entries.{Entry, times, kept_if, calls_by, calls_of, counting}
+use Rattle.shelf.specs.Entries.{Entry, times, kept_if, calls_by, counting}
 use Rattle.shelf.proofs.Leaving.{admitted-fresh}
 use Rattle.shelf.proofs.Stages.{begins-self, begins-then}
 

@@ -1,20 +1,13 @@
 -- A packet staged, record by record.
 use Rattle.std.proofs.Common.{◌≡◌, ℕ, ◌+◌, ◌<◌, Bool, true, false, List, [], ◌∷◌, ◌++◌, length, slice_get, Some, sym, ◌∙◌, ap, refl, subst, arith, length-append, append_assoc, if◌then◌else◌}
 use Rattle.std.specs.List.{AllByRecursion}
-use Rattle.std.proofs.lemmas.List.{append-nil, length-map, take_all}
+use Rattle.std.proofs.lemmas.List.{append-nil, length-map}
 use Rattle.avl_values.specs.Record.{Record}
 use Rattle.avl_values.specs.declared.codec.Codec.{Codec}
 use Rattle.record_layout.specs.SomeRecord.{IsSomeRecord}
-use Rattle.layout.specs.Bytes.{AreBytes}
-use Rattle.layout.specs.Rows.{whole}
-use Rattle.record_layout.specs.Packet.{IsPacket}
-use Rattle.record_layout.specs.PacketRows.{packet_verdict}
-use Rattle.record_layout.specs.RecordsOf.{records_of, count_of}
-use Rattle.record_layout.specs.declared.head.PacketHead.{PacketHead}
-use Rattle.record_layout.proofs.ReadLaws.{whole_packet, records_read}
+use Rattle.record_layout.specs.RecordsOf.{records_of}
 use Rattle.archive_journal.proofs.Packets.{IsWhole, in_codec}
 use Rattle.shelf.specs.Archive.{StoredValue, stored, has, add, admitted, ArePlaces, Begins}
-use Rattle.shelf.specs.Index.{Keyed, IsComplete}
 use Rattle.shelf.proofs.Lists.{get-front}
 
 pub begins-self : (list : List StoredValue) → Begins list list
@@ -54,42 +47,39 @@ places-count list imei (r ∷ rs) [] are = absurd are
 places-count list imei (r ∷ rs) (p ∷ ps) are = let rest = places-count list imei rs ps are.1 in omega arith
 
 -- The first records of a packet have been staged.
-pub record Staging (start : List StoredValue) (imei : ℕ) (codec : Codec) (all : List Record) (list : List StoredValue) (index : List (Keyed × ℕ)) (places : List ℕ) (left : List (List ℕ)) : Type 0 where
+pub record Staging (start : List StoredValue) (imei : ℕ) (codec : Codec) (all : List Record) (list : List StoredValue) (places : List ℕ) (left : List (List ℕ)) : Type 0 where
   pub done : List Record
   pub split : done ++ in_codec codec left ≡ all
   pub grows : admitted list imei (in_codec codec left) ≡ admitted start imei all
   pub begins : Begins start list
-  pub complete : IsComplete list index
   pub placed : ArePlaces list imei done places
   pub sound : AllByRecursion (IsSomeRecord codec) left
 
-pub staging-first : (start : List StoredValue) (imei : ℕ) (codec : Codec) (body : List ℕ) (index : List (Keyed × ℕ)) (left : List (List ℕ)) (w : IsWhole codec body) → left ≡ w.rs → IsComplete start index
-    → Staging start imei codec (records_of body) start index [] left
-staging-first start imei codec body index left w is complete = record {
+pub staging-first : (start : List StoredValue) (imei : ℕ) (codec : Codec) (body : List ℕ) (left : List (List ℕ)) (w : IsWhole codec body) → left ≡ w.rs → Staging start imei codec (records_of body) start [] left
+staging-first start imei codec body left w is = record {
   done = [];
   split = ap (in_codec codec) is ∙ sym w.read;
   grows = ap (admitted start imei) (ap (in_codec codec) is ∙ sym w.read);
   begins = begins-self start;
-  complete = complete;
   placed = tt;
   sound = subst (AllByRecursion (IsSomeRecord codec)) (sym is) w.is.each;
 }
 
-module _ (start : List StoredValue) (imei : ℕ) (codec : Codec) (all : List Record) (list : List StoredValue) (index : List (Keyed × ℕ)) (places : List ℕ) (left : List (List ℕ)) where
-  pub staging-sound : (r : List ℕ) (rest : List (List ℕ)) → Staging start imei codec all list index places left → left ≡ r ∷ rest → IsSomeRecord codec r
+module _ (start : List StoredValue) (imei : ℕ) (codec : Codec) (all : List Record) (list : List StoredValue) (places : List ℕ) (left : List (List ℕ)) where
+  pub staging-sound : (r : List ℕ) (rest : List (List ℕ)) → Staging start imei codec all list places left → left ≡ r ∷ rest → IsSomeRecord codec r
   staging-sound r rest s is = (subst (AllByRecursion (IsSomeRecord codec)) is s.sound).0
 
-  pub staging-room : (r : List ℕ) (rest : List (List ℕ)) → Staging start imei codec all list index places left → left ≡ r ∷ rest → length places < length all
+  pub staging-room : (r : List ℕ) (rest : List (List ℕ)) → Staging start imei codec all list places left → left ≡ r ∷ rest → length places < length all
   staging-room r rest s is =
       let count = places-count list imei s.done places s.placed in
       let size = ap length s.split in
       let more : length (in_codec codec left) ≡ length rest + 1 = ap (λ (l : List (List ℕ)). length (in_codec codec l)) is ∙ omega (arith, length-map rest (λ b. let x : Record = record { codec = codec; bytes = b } in x)) in
       omega (arith, length-append s.done (in_codec codec left))
 
-  pub staging-more : (r : List ℕ) (rest : List (List ℕ)) (more : List StoredValue) (later : List (Keyed × ℕ)) (p : ℕ) (longer : List ℕ) → Staging start imei codec all list index places left → left ≡ r ∷ rest
-      → more ≡ add list imei (record { codec = codec; bytes = r }) → slice_get more p ≡ Some (stored imei (record { codec = codec; bytes = r })) → IsComplete more later
-      → longer ≡ places ++ p ∷ [] → Staging start imei codec all more later longer rest
-  staging-more r rest more later p longer s is added at complete longer_is =
+  pub staging-more : (r : List ℕ) (rest : List (List ℕ)) (more : List StoredValue) (p : ℕ) (longer : List ℕ) → Staging start imei codec all list places left → left ≡ r ∷ rest
+      → more ≡ add list imei (record { codec = codec; bytes = r }) → slice_get more p ≡ Some (stored imei (record { codec = codec; bytes = r }))
+      → longer ≡ places ++ p ∷ [] → Staging start imei codec all more longer rest
+  staging-more r rest more p longer s is added at longer_is =
       let this : Record = record { codec = codec; bytes = r } in
       let P : List StoredValue → Type 0 = λ l. Begins list l in
       let begins = subst P (sym added) (begins-add list imei this) in
@@ -99,25 +89,17 @@ module _ (start : List StoredValue) (imei : ℕ) (codec : Codec) (all : List Rec
         split = append_assoc s.done (this ∷ []) (in_codec codec rest) ∙ ap (λ (l : List (List ℕ)). s.done ++ in_codec codec l) (sym is) ∙ s.split;
         grows = ap (λ (l : List StoredValue). admitted l imei (in_codec codec rest)) added ∙ ap (λ (l : List (List ℕ)). admitted list imei (in_codec codec l)) (sym is) ∙ s.grows;
         begins = begins-then start list more s.begins begins;
-        complete = complete;
         placed = subst Q (sym longer_is) (places-push more imei s.done places this p (places-later list more imei s.done places begins s.placed) at);
         sound = (subst (AllByRecursion (IsSomeRecord codec)) is s.sound).1;
       }
 
-  pub staging-list : Staging start imei codec all list index places left → left ≡ [] → list ≡ admitted start imei all
+  pub staging-list : Staging start imei codec all list places left → left ≡ [] → list ≡ admitted start imei all
   staging-list s none = ap (λ (l : List (List ℕ)). admitted list imei (in_codec codec l)) (sym none) ∙ s.grows
 
-  pub staging-places : Staging start imei codec all list index places left → left ≡ [] → ArePlaces list imei all places
+  pub staging-places : Staging start imei codec all list places left → left ≡ [] → ArePlaces list imei all places
   staging-places s none =
       let P : List Record → Type 0 = λ l. ArePlaces list imei l places in
       subst P (sym (append-nil s.done) ∙ ap (λ (l : List (List ℕ)). s.done ++ in_codec codec l) (sym none) ∙ s.split) s.placed
-
-pub count-is : (body : List ℕ) (head : PacketHead) (n : ℕ) → AreBytes body → packet_verdict (length body) body ≡ whole head n → head.count ≡ count_of body
-count-is body head n bytes is =
-    let w = whole_packet (length body) n head body bytes is in
-    let P : List ℕ → Type 0 = λ p. IsPacket head.codec w.0 p in
-    let packet = subst P (take_all (length body) body (omega arith)) w.3 in
-    w.4 ∙ sym (ap length (records_read head.codec w.0 body packet) ∙ length-map w.0 (λ r. let x : Record = record { codec = head.codec; bytes = r } in x))
 
 pub few-records : (codec : Codec) (body : List ℕ) (w : IsWhole codec body) → length (records_of body) < 256
 few-records codec body w =

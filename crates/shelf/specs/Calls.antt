@@ -1,5 +1,5 @@
 -- Calls of `admit` in a row: what they leave, and what a history of them makes of a list.
-use Rattle.std.specs.Prelude.{◌≡◌, ℕ, Bool, List, [], ◌∷◌, ◌++◌, map, Option, Some, None, Result, Ok, Err}
+use Rattle.std.specs.Prelude.{◌≡◌, ℕ, Bool, List, [], ◌∷◌, ◌++◌, Option, Some, None, Result, Ok, Err}
 use Rattle.avl_values.specs.Record.{Record}
 use Rattle.record_layout.specs.RecordsOf.{records_of, count_of}
 use Rattle.shelf.specs.Archive.{StoredValue}

@@ -4,6 +4,7 @@ pub mod Calls
 pub mod Histories
 pub mod Entries
 pub mod Devices
+pub mod Digest
 pub mod Index
 pub mod Kept
 pub mod Shelf

@@ -1,13 +1,12 @@
 -- What contracts see of a shelf, and what a power loss may leave of it, said of its record list.
-use Rattle.std.specs.Prelude.{◌≡◌, ℕ, ◌≤◌, ◌^◌, map, Bool, true, false, List, [], ◌∷◌, length, Result, Ok, Err}
+use Rattle.std.specs.Prelude.{◌≡◌, ℕ, ◌≤◌, ◌^◌, map, Bool, true, false, List, [], ◌∷◌, length, Some, Result, Ok, Err}
 use Rattle.avl_values.specs.Causes.{IsAbove}
 use Rattle.avl_values.specs.Record.{Record}
-use Rattle.layout.specs.Rows.{whole}
+use Rattle.medium_model.specs.CallsLeft.{unlimited}
 use Rattle.medium_model.specs.Content.{Content, settled}
+use Rattle.medium_model.specs.PowerLoss.{WasImage}
 use Rattle.medium_model.specs.State.{MediumState, IfTold, Counted}
-use Rattle.record_layout.specs.PacketRows.{packet_verdict}
 use Rattle.record_layout.specs.RecordsOf.{records_of}
-use Rattle.record_layout.specs.declared.head.PacketHead.{PacketHead}
 use Rattle.archive_journal.specs.Body.{EntryValue, joined}
 use Rattle.archive_journal.specs.Entry.{IsEntry}
 use Rattle.avl_values.specs.declared.codec.Codec.{Codec}
@@ -17,7 +16,6 @@ use Rattle.archive_journal.specs.Journal as journal
 use Rattle.medium_model.specs.Images.{IsEither}
 use Rattle.shelf.specs.Archive.{StoredValue, fresh, list_of}
 use Rattle.shelf.specs.Admits.{Shelved, Answer, answer_of, Admits}
-use Rattle.shelf.specs.Index.{Keyed, IsComplete}
 use Rattle.shelf.specs.declared.receipt.Receipt.{Receipt}
 use Rattle.shelf.specs.declared.receipt.AdmitFault.{AdmitFault}
 use Rattle.shelf.specs.declared.receipt.AdmitFault.TheVariants.{Down, NoMemory, MediumFault}
@@ -55,18 +53,21 @@ pub record IsDurable (v : ShelfView) : Type 0 where
 pub record ListsEither (before after : List StoredValue) (es : List EntryValue) : Type 0 where
   pub is : IsEither before after (list_of es)
 
+-- The power came back: the shelf is up over one of the images that the power loss might have left.
+pub record IsRestarted (old new : ShelfView) : Type 0 where
+  pub image : List ℕ
+  pub was : WasImage old.medium.content image
+  pub list : new.list ≡ list_of (entries_of image)
+  pub entries : entries_told new.medium.content ≡ Some (entries_of image)
+  pub up : new.down ≡ false
+  pub left : new.medium.left ≡ unlimited
+
 -- what is true of each shelf
-pub record IsShelf (j : JournalView) (list : List StoredValue) (places : List (Keyed × ℕ)) (down : Bool) (opened : ℕ) : Type 0 where
+pub record IsShelf (j : JournalView) (list : List StoredValue) (down : Bool) (opened : ℕ) : Type 0 where
   pub up : down ≡ false → journal.IsDurable j
   pub lists : down ≡ false → IfTold j.medium.content (HasList list)
-  pub index : IsComplete list places
   pub later : opened ≤ j.medium.faults
   pub fell : down ≡ true → IsAbove j.medium.faults opened
-
--- a body that `read_packet` accepts
-pub record IsAccepted (body : List ℕ) : Type 0 where
-  pub head : PacketHead
-  pub is : packet_verdict (length body) body ≡ whole head (length body)
 
 -- the records of a list
 abbrev pub recs_of : List StoredValue → List Record

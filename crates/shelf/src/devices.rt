@@ -1,38 +1,19 @@
-//! How many devices have records, counted as they come.
-ghost use Rattle.std.specs.Prelude.{◌≡◌, ◌+◌, ◌<◌, ◌≤◌, false, length, take, slice_get, IfOk, IfNone, IfSome, OnOk, Some, []};
-ghost use Rattle.shelf.specs.Archive.{devices_of, has_device};
-ghost use Rattle.shelf.specs.Devices.{IsCounted, IsGrown};
-ghost use Rattle.shelf.specs.Index.{IsHead, IsHeaded, device_key, place_in};
+//! The devices of a record list, counted as they come and go.
+ghost use Rattle.std.specs.Prelude.{◌≡◌, ◌<◌, ◌^◌, ◌∷◌, ◌++◌, [], length, OnOk, OnErr};
+ghost use Rattle.avl_values.specs.Record.{Record};
+ghost use Rattle.shelf.specs.Archive.{stored};
+ghost use Rattle.shelf.specs.Devices.{IsCounted};
 
-use crate::index::Index;
 use crate::stored::Stored;
 use avl_values::{Imei, NoMemory};
 use std::alloc::Global;
+use std::collections::BTreeMap;
 
-/// A place of each device's records, and how many devices there are.
+/// The first place of each device's records, and how many devices there are.
 #[derive(Drop)]
 pub struct Devices {
-    pub heads: Index,
+    pub firsts: BTreeMap<u64, u64>,
     pub count: u64,
-}
-
-// A place of a device's records, None where it has none.
-fn head(alloc: Global, heads: &Index, list: &[Stored], imei: Imei) -> Option<u64>
-    requires { IsHeaded list.now heads.now }
-    ensures found { IfSome result (λ p. Some p ≡ place_in heads.now (device_key imei)) }
-    ensures some { IfSome result (IsHead list.now imei) }
-    ensures none { IfNone result (has_device list.now imei ≡ false) }
-{
-    let Some(place) = heads.find(&(imei.number(), Vec::new(alloc))) else {
-        return None;
-    };
-    if place >= list.len() as u64 {
-        return None;
-    }
-    if list[place as usize].imei() != imei {
-        return None;
-    }
-    Some(place)
 }
 
 impl Devices {
@@ -41,34 +22,42 @@ impl Devices {
         ensures { IsCounted [] result }
     {
         Devices {
-            heads: Index::new(alloc),
+            firsts: BTreeMap::new(alloc),
             count: 0,
         }
     }
 
-    /// Notes a place of the device whose records stand from a place on, and gives how many devices they add: 0 or 1.
-    pub fn note(
-        &mut self,
-        alloc: Global,
-        list: &[Stored],
-        known: usize,
-        imei: Imei,
-    ) -> Result<u64, NoMemory>
-        requires some { known < length list.now }
-        requires grown { IsGrown (take known list.now) list.now imei }
-        requires headed { IsHeaded (take known list.now) self.old.heads }
-        ensures before { IsHeaded (take known list.now) self.new.heads }
-        ensures headed { OnOk result (IsHeaded list.now self.new.heads) }
-        ensures count { self.new.count ≡ self.old.count }
-        ensures new { IfOk result (λ n. devices_of list.now ≡ devices_of (take known list.now) + n) }
-        ensures fits { devices_of list.now ≤ length list.now }
+    /// Notes the device of a record that comes behind this list. NoMemory changes nothing.
+    pub fn note(&mut self, list: &[Stored], imei: Imei) -> Result<(), NoMemory>
+        requires counted { IsCounted list.now self.old }
+        requires few { length list.now < 2 ^ 63 }
+        ensures counted { OnOk result ((r : Record) → IsCounted (list.now ++ stored imei r ∷ []) self.new) }
+        ensures err { OnErr result (IsCounted list.now self.new) }
     {
-        match head(alloc, &self.heads, &list[..known], imei) {
-            Some(_) => Ok(0),
+        let number = imei.number();
+        match self.firsts.get(&number).copied() {
+            Some(_) => Ok(()),
             None => {
-                self.heads
-                    .insert((imei.number(), Vec::new(alloc)), known as u64)?;
-                Ok(1)
+                self.firsts.insert(number, list.len() as u64)?;
+                self.count += 1;
+                Ok(())
+            }
+        }
+    }
+
+    /// Forgets the device of a record that was the last behind this list, where it has no other.
+    pub fn forget(&mut self, list: &[Stored], last: &Stored)
+        requires { IsCounted (list.now ++ last.now ∷ []) self.old }
+        ensures { IsCounted list.now self.new }
+    {
+        let number = last.imei().number();
+        match self.firsts.get(&number).copied() {
+            None => {}
+            Some(first) => {
+                if first == list.len() as u64 {
+                    let _first = self.firsts.remove(&number);
+                    self.count -= 1;
+                }
             }
         }
     }

@@ -4,12 +4,11 @@
 
 mod device;
 mod devices;
-mod index;
+mod digest;
 mod keep;
 mod listing;
 mod receipt;
 mod shelf;
-mod staging;
 mod stored;
 
 pub use receipt::{Admit, AdmitFault, Receipt};

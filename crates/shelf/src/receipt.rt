@@ -1,9 +1,10 @@
 ghost use Rattle.std.specs.Prelude.{◌≡◌, ◌≤◌, ◌^◌, length, IfOk};
 ghost use Rattle.record_layout.specs.RecordsOf.{count_of};
-ghost use Rattle.shelf.specs.Shelf.{IsAccepted};
+ghost use Rattle.record_layout.specs.Body.{IsBody};
+ghost use Rattle.record_layout.specs.declared.head.PacketHead.{PacketHead};
 
 use arrayvec::ArrayVec;
-use avl_values::Imei;
+use avl_values::{Imei, NoMemory};
 
 /// What is said of a packet that was admitted.
 #[derive(Debug, Drop)]
@@ -31,6 +32,16 @@ pub enum AdmitFault {
     },
 }
 
+impl From<NoMemory> for AdmitFault {
+    ghost use Rattle.shelf.specs.declared.receipt.AdmitFault.TheVariants as fault;
+
+    ghost from_gives = { λ _ e. e ≡ fault.NoMemory };
+
+    fn from(_: NoMemory) -> Self {
+        AdmitFault::NoMemory
+    }
+}
+
 /// Where packets are admitted, one call after the other.
 pub trait Admit {
     ghost use Rattle.std.specs.Prelude.{ℕ, List, Option, Result};
@@ -50,7 +61,7 @@ pub trait Admit {
     /// Admits the records of a data body for a device.
     fn admit(&mut self, imei: Imei, body: &[u8]) -> Result<Receipt, AdmitFault>
         requires few { length body.now ≤ 2 ^ 31 }
-        requires accepted { IsAccepted body.now }
+        requires accepted { (head : PacketHead) × IsBody head body.now }
         ensures leaves { leaves self.old imei body.now result self.new }
         ensures receipt { IfOk result (λ r. r.count ≡ count_of body.now) };
 

@@ -1,4 +1,4 @@
-ghost use Rattle.std.specs.Prelude.{◌≡◌, ◌≤◌, ◌^◌, true, false, length, IfOk, IfErr, OnOk};
+ghost use Rattle.std.specs.Prelude.{◌≡◌, ◌≤◌, ◌^◌, true, false, length, IfOk, IfErr, IsOk, IsSome, OnErr, OnOk};
 ghost use Rattle.avl_values.specs.Causes.{IsAbove};
 ghost use Rattle.medium_model.specs.CallsLeft.{after, unlimited};
 ghost use Rattle.medium_model.specs.Content.{after_sync};
@@ -6,17 +6,15 @@ ghost use Rattle.medium_model.specs.State.{IfTold, IsRun, told};
 ghost use Rattle.medium_model.specs.PowerLoss.{EveryImage};
 ghost use Rattle.record_layout.specs.RecordsOf.{count_of};
 ghost use Rattle.archive_journal.specs.Entries.{IsArchive, entries_of};
-ghost use Rattle.archive_journal.specs.Journal.{KeepsEntries};
+ghost use Rattle.archive_journal.specs.Journal.{KeepsEntries, entries_told};
 ghost use Rattle.shelf.specs.Archive.{IsOnce, devices_of, list_of, places_of};
-ghost use Rattle.shelf.specs.Shelf.{IsAccepted, IsDurable, Leaves};
+ghost use Rattle.record_layout.specs.Body.{IsBody};
+ghost use Rattle.record_layout.specs.declared.head.PacketHead.{PacketHead};
+ghost use Rattle.shelf.specs.Shelf.{IsDurable, IsRestarted, Leaves};
 
-use crate::device::places;
-use crate::devices::Devices;
-use crate::index::Index;
 use crate::keep::{KeepFault, keep};
-use crate::listing::list_all;
+use crate::listing::Listing;
 use crate::receipt::{Admit, AdmitFault, Receipt};
-use crate::staging::stage;
 use crate::stored::Stored;
 use archive_journal::{ArchiveFault, Journal};
 use avl_values::{Imei, NoMemory};
@@ -31,23 +29,20 @@ use std::marker::Model;
 #[derive(Drop)]
 pub struct Shelf<M: Medium> {
     journal: Journal<M>,
-    list: Vec<Stored>,
-    index: Index,
-    devices: Devices,
+    listing: Listing,
     down: bool,
     opened: u64,
     alloc: Global,
 }
 
 impl<M: Medium> Model for Shelf<M> {
-    ghost use Rattle.shelf.specs.Devices.{IsCounted};
     ghost use Rattle.shelf.specs.Shelf.{ShelfView, IsShelf};
 
     ghost Value = { ShelfView };
 
-    ghost view = { λ s. record { medium = s.journal.medium; list = s.list.items; down = s.down; opened = s.opened } };
+    ghost view = { λ s. record { medium = s.journal.medium; list = s.listing; down = s.down; opened = s.opened } };
 
-    ghost invariant = { λ s. IsShelf s.journal s.list.items s.index s.down s.opened × IsCounted s.list.items s.devices };
+    ghost invariant = { λ s. IsShelf s.journal s.listing s.down s.opened };
 }
 
 impl<M: Medium> Shelf<M> {
@@ -68,36 +63,25 @@ impl<M: Medium> Shelf<M> {
         ensures run { IfOk result (λ s. IsRun (M.state medium) s.medium ⊥) }
         ensures run_err { IfErr result (λ e. IsRun (M.state medium) (M.state e.1) (e.0 ≡ ArchiveFault.MediumFault)) }
     {
-        match Journal::open(alloc, medium) {
-            Err((fault, medium)) => Err((fault, medium)),
-            Ok((journal, entries)) => {
-                let mut list = Vec::new(alloc);
-                let mut index = Index::new(alloc);
-                let mut devices = Devices::new(alloc);
-                match list_all(alloc, &mut list, &mut index, &mut devices, &entries) {
-                    Err(NoMemory) => Err((ArchiveFault::NoMemory, journal.into_medium())),
-                    Ok(()) => {
-                        let opened = journal.faults();
-                        Ok(Shelf {
-                            journal,
-                            list,
-                            index,
-                            devices,
-                            down: false,
-                            opened,
-                            alloc,
-                        })
-                    }
-                }
-            }
-        }
+        let (journal, entries) = Journal::open(alloc, medium)?;
+        let Ok(listing) = Listing::of(alloc, entries) else {
+            return Err((ArchiveFault::NoMemory, journal.into_medium()));
+        };
+        let opened = journal.faults();
+        Ok(Shelf {
+            journal,
+            listing,
+            down: false,
+            opened,
+            alloc,
+        })
     }
 
     /// Admits the records of a data body for a device: those that it doesn't have yet, each once, are appended as one entry, by
     /// four calls of the medium. Where there are none it makes no call of the medium.
     pub fn admit(&mut self, imei: Imei, body: &[u8]) -> Result<Receipt, AdmitFault>
         requires few { length body.now ≤ 2 ^ 31 }
-        requires accepted { IsAccepted body.now }
+        requires accepted { (head : PacketHead) × IsBody head body.now }
         ensures leaves { Leaves self.old imei body.now result self.new }
         ensures receipt { IfOk result (λ r. r.count ≡ count_of body.now) }
     {
@@ -106,40 +90,24 @@ impl<M: Medium> Shelf<M> {
                 faults: self.journal.faults(),
             });
         }
-        let known = self.list.len();
-        match stage(self.alloc, &mut self.list, &mut self.index, imei, body) {
-            Err(NoMemory) => {
-                self.list.truncate(known);
+        let known = self.listing.len();
+        let receipt = self.listing.stage(imei, body)?;
+        if self.listing.len() == known {
+            return Ok(receipt);
+        }
+        let new = self.listing.behind(known);
+        match keep(self.alloc, &mut self.journal, imei, new) {
+            Ok(()) => Ok(receipt),
+            Err(KeepFault::NoMemory) => {
+                self.listing.truncate(known);
                 Err(AdmitFault::NoMemory)
             }
-            Ok(receipt) => {
-                if self.list.len() == known {
-                    return Ok(receipt);
-                }
-                let new = match self.devices.note(self.alloc, &self.list, known, imei) {
-                    Ok(new) => new,
-                    Err(NoMemory) => {
-                        self.list.truncate(known);
-                        return Err(AdmitFault::NoMemory);
-                    }
-                };
-                match keep(self.alloc, &mut self.journal, imei, &self.list[known..]) {
-                    Ok(()) => {
-                        self.devices.count += new;
-                        Ok(receipt)
-                    }
-                    Err(KeepFault::NoMemory) => {
-                        self.list.truncate(known);
-                        Err(AdmitFault::NoMemory)
-                    }
-                    Err(KeepFault::MediumFault) => {
-                        self.list.truncate(known);
-                        self.down = true;
-                        Err(AdmitFault::MediumFault {
-                            faults: self.journal.faults(),
-                        })
-                    }
-                }
+            Err(KeepFault::MediumFault) => {
+                self.listing.truncate(known);
+                self.down = true;
+                Err(AdmitFault::MediumFault {
+                    faults: self.journal.faults(),
+                })
             }
         }
     }
@@ -149,21 +117,21 @@ impl<M: Medium> Shelf<M> {
         ensures value { result.now ≡ self.now.list }
         ensures once { IsOnce self.now.list }
     {
-        self.list.as_slice()
+        self.listing.records()
     }
 
     /// The places of a device's records in the list, rising.
     pub fn device(&self, imei: Imei) -> Result<Vec<u64>, NoMemory>
         ensures { IfOk result (λ v. v.items ≡ places_of self.now.list imei) }
     {
-        places(self.alloc, &self.list, imei)
+        self.listing.device(imei)
     }
 
     /// How many devices have records.
     pub fn devices(&self) -> u64
         ensures { result ≡ devices_of self.now.list }
     {
-        self.devices.count
+        self.listing.devices()
     }
 
     /// How often its medium has failed.
@@ -195,9 +163,65 @@ impl<M: Medium> Shelf<M> {
     where
         M: Bench,
         requires { self.old.medium.left ≡ unlimited }
-        ensures { self.new ≡ record self.old { medium = record self.old.medium { left = after calls } } }
+        ensures armed { self.new ≡ record self.old { medium = record self.old.medium { left = after calls } } }
+        ensures told { IsSome self.old.medium.content }
     {
         self.journal.arm(calls, tear);
+    }
+
+    /// The power comes back: the shelf's bench reads as one of the images that the power loss might have left, and the shelf is
+    /// up with that image's record list. One that is up has it already; for one that is down the archive is read again, which
+    /// takes memory. Out of memory leaves it down, with the power back: the call can be made once more.
+    pub fn restart(&mut self) -> Result<(), NoMemory>
+    where
+        M: Bench,
+        ensures restarted { OnOk result (IsRestarted self.old self.new) }
+        ensures durable { OnOk result (IsDurable self.new) }
+        ensures opened { OnOk result (self.new.opened ≡ self.new.medium.faults) }
+        ensures up { self.old.down ≡ false → IsOk result }
+        ensures err { OnErr result (self.new ≡ record self.old { medium = self.new.medium }) }
+
+        // It keeps the entries that the power loss might have left, also where it fails.
+        ensures keeps { EveryImage self.new.medium.content (KeepsEntries self.old.medium.content) }
+        ensures told { IsSome self.old.medium.content × IsSome self.new.medium.content }
+        ensures unlimited { self.new.medium.left ≡ unlimited }
+        ensures later { self.old.medium.faults ≤ self.new.medium.faults }
+        ensures ready { self.old.medium.ready ≤ self.new.medium.ready }
+    {
+        self.journal.restart();
+        if self.down {
+            return self.read_again();
+        }
+        self.opened = self.journal.faults();
+        Ok(())
+    }
+
+    // Reads its archive again.
+    fn read_again(&mut self) -> Result<(), NoMemory>
+    where
+        M: Bench,
+        requires down { self.old.down ≡ true }
+        requires told { IsSome self.old.medium.content }
+        requires unlimited { self.old.medium.left ≡ unlimited }
+        requires archive { IfTold self.old.medium.content (λ c. IsArchive c.reads) }
+        ensures list { OnOk result (IfTold self.old.medium.content (λ c. self.new.list ≡ list_of (entries_of c.reads))) }
+        ensures entries { OnOk result (entries_told self.new.medium.content ≡ entries_told self.old.medium.content) }
+        ensures durable { OnOk result (IsDurable self.new) }
+        ensures opened { OnOk result (self.new.opened ≡ self.new.medium.faults) }
+        ensures err { OnErr result (self.new ≡ record self.old { medium = self.new.medium }) }
+        ensures keeps { EveryImage self.new.medium.content (KeepsEntries self.old.medium.content) }
+        ensures run { IsRun self.old.medium self.new.medium ⊥ }
+    {
+        let entries = match self.journal.reopen(self.alloc) {
+            Ok(entries) => entries,
+            Err(ArchiveFault::NoMemory) => return Err(NoMemory),
+            Err(ArchiveFault::MediumFault) => unreachable!(),
+            Err(ArchiveFault::NotArchive) => unreachable!(),
+        };
+        self.listing = Listing::of(self.alloc, entries)?;
+        self.down = false;
+        self.opened = self.journal.faults();
+        Ok(())
     }
 }
 

@@ -7,7 +7,8 @@ use Rattle.avl_values.specs.declared.codec.Codec.{Codec}
 use Rattle.avl_values.specs.declared.codec.Codec.TheVariants.{C8, C8E, C16}
 use Rattle.avl_values.specs.declared.width.Width.{Width}
 use Rattle.avl_values.specs.declared.width.Width.TheVariants.{W1, W2, W4, W8}
-use Rattle.record_codecs.specs.Elements.{all_widths, behind_groups, front_number, groups_in, id_width_of, nx_of}
+use Rattle.record_layout.specs.Table.{id_width}
+use Rattle.record_codecs.specs.Elements.{all_widths, behind_groups, front_number, groups_in, nx_of}
 use Rattle.record_codecs.specs.Shown.{elements_from}
 
 -- the number of this width at a place
@@ -34,7 +35,7 @@ value_in codec bytes = record {
   angle = number_at 19 W2 bytes;
   satellites = number_at 21 W1 bytes;
   speed = number_at 22 W2 bytes;
-  event = number_at 24 (id_width_of codec) bytes;
+  event = number_at 24 (id_width codec) bytes;
   generation = generation_at codec bytes;
   ones = pairs_at W1 codec bytes;
   twos = pairs_at W2 codec bytes;

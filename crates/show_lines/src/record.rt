@@ -3,7 +3,7 @@ ghost use Rattle.std.specs.Prelude.{◌≡◌, ◌∷◌, ◌++◌, [], codes, O
 ghost use Rattle.std.specs.Fmt.{signed_decimal};
 ghost use Rattle.avl_values.specs.RecordValue.{RecordValue};
 ghost use Rattle.json.specs.Token.{key, number};
-ghost use Rattle.record_codecs.specs.Shown.{Shows, generation_in};
+ghost use Rattle.record_codecs.specs.Shown.{Shows, generation_of};
 ghost use Rattle.record_layout.specs.Spelling.{IsRecord};
 ghost use Rattle.show_lines.specs.Extends.{Extends};
 ghost use Rattle.show_lines.specs.Json.{as_line};
@@ -19,14 +19,11 @@ use record_codecs::{RecordView, view};
 use serde::{Described, Serialize, Serializer};
 use std::alloc::Global;
 
-/// The generation type, which only Codec 16 has.
-fn generation(codec: Codec, shown: &RecordView<'_>) -> Option<u32>
-    ensures { (v : RecordValue) → Shows shown.now v → result ≡ generation_in codec v }
+/// The generation type, as the serializer takes it.
+fn generation(shown: &RecordView<'_>) -> Option<u32>
+    ensures { (v : RecordValue) → Shows shown.now v → result ≡ generation_of shown.now v }
 {
-    match codec {
-        Codec::C16 => Some(u32::from(shown.generation().unwrap_or(0))),
-        Codec::C8 | Codec::C8E => None,
-    }
+    shown.generation().map(u32::from)
 }
 
 fn altitude<S: Serializer>(out: &mut S, gps: &Gps) -> Result<(), S::Error>
@@ -71,7 +68,7 @@ impl Serialize for RecordLine<'_> {
         altitude(out, &gps)?;
         members::number(out, "angle", gps.angle as u64)?;
         members::number(out, "event", record.event() as u64)?;
-        members::number_or_null(out, "generation", generation(self.codec, &record))?;
+        members::number_or_null(out, "generation", generation(&record))?;
         out.key("io")?;
         elements(out, record.ios())?;
         members::text(out, "item", "record")?;

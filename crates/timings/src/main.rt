@@ -6,36 +6,51 @@ mod acquisition_work;
 mod archive_work;
 mod bodies;
 mod codec_work;
+mod desk_work;
 mod frame_work;
 mod line_work;
 mod ring_work;
+mod script_work;
 
 use anyhow::Context;
 use std::alloc::Global;
 use std::env;
+use std::sync::Wait;
+use std::thread::Threads;
 
 /// A little of everything.
-const SAMPLES: [(&str, [u64; 3]); 9] = [
+const SAMPLES: [(&str, [u64; 3]); 12] = [
     ("codecs", [112, 1, 0]),
+    ("fields", [112, 1, 0]),
     ("frames", [2, 1460, 0]),
     ("lines", [7, 3, 0]),
     ("acquisition", [1000, 0, 0]),
     ("archive", [5, 2, 1]),
+    ("desk", [40, 4, 0]),
     ("release", [4, 0, 0]),
     ("rounds", [40, 0, 0]),
     ("overwrite", [4, 0, 0]),
     ("medium", [4, 0, 0]),
+    ("scripts", [0, 100_000, 1]),
 ];
 
 /// Does what the word says, and gives its two numbers; None for another word, or out of memory.
-fn work(alloc: Global, what: &str, numbers: [u64; 3]) -> Option<(u64, u64)> {
+fn work<R: Threads + Wait + Sync>(
+    rt: &R,
+    alloc: Global,
+    what: &str,
+    numbers: [u64; 3],
+) -> Option<(u64, u64)> {
     let [first, second, third] = numbers;
     match what {
-        "codecs" => codec_work::judge_packets(alloc, first, second),
+        "codecs" => codec_work::judge_packets(alloc, first, second, false),
+        "fields" => codec_work::judge_packets(alloc, first, second, true),
         "frames" => frame_work::read_stream(alloc, first, second),
         "lines" => line_work::write_lines(alloc, first, second),
         "acquisition" => acquisition_work::acquire(first),
         "archive" => archive_work::archive(alloc, first, second, third),
+        "desk" => desk_work::admit(rt, alloc, first, second),
+        "scripts" => script_work::read_scripts(alloc, first, second, third),
         "medium" => ring_work::write_medium(alloc, first),
         _ => ring_work::work(alloc, what, first),
     }
@@ -55,12 +70,14 @@ fn main(rt: HostRuntime) -> anyhow::Result<()> {
     }
     match what {
         Some(what) => {
-            let (first, second) = work(rt.alloc(), what.as_str(), numbers).context("all of it")?;
+            let (first, second) = work(&rt, rt.alloc(), what.as_str(), numbers).context(
+                "all of it",
+            )?;
             println!(rt; "{first} {second}")?;
         }
         None => {
             for (what, numbers) in SAMPLES {
-                let (first, second) = work(rt.alloc(), what, numbers).context("all of it")?;
+                let (first, second) = work(&rt, rt.alloc(), what, numbers).context("all of it")?;
                 println!(rt; "{what} {first} {second}")?;
             }
         }

@@ -5,16 +5,21 @@ ghost use Rattle.record_codecs.specs.SomeRecord.{IsSomeRecord};
 
 use avl_values::{Codec, Rec};
 use flash_ring::{OpenFault, Order, PutFault, Ring};
+use hex::decode;
 use medium::{Bench, Medium, MemoryBench, MemoryMedium, Tear};
 use record_codecs::is_record;
 use std::alloc::Global;
 use std::test::Fail;
 
+/// 1560161086000 milliseconds, the time of a record.
+const TIME: [u8; 8] = [0, 0, 0x01, 0x6b, 0x40, 0xd8, 0xea, 0x30];
+
 // A Codec 8 record without elements.
 fn sample() -> Option<Rec>
     ensures { IfSome result (λ r. IsSomeRecord r.codec r.bytes.items) }
 {
-    let bytes = [0; 30];
+    let mut bytes = [0; 30];
+    bytes[..8].copy_from_slice(&TIME);
     if !is_record(Codec::C8, &bytes) {
         return None;
     }
@@ -282,6 +287,48 @@ fn each_call_of_a_release_fails_in_turn(rt: HostRuntime) -> Result<(), Fail> {
     assert!(rt; failing_release(alloc, 13) == ("failed", 1));
     assert!(rt; failing_release(alloc, 14) == ("failed", 0));
     assert!(rt; failing_release(alloc, 15) == ("released", 0));
+    Ok(())
+}
+
+// Whether a slot's 272 bytes begin with those of a text in hex, and are zero from there on.
+fn is_slot(alloc: Global, bytes: &[u8], front: &str) -> bool {
+    let Ok(mut slot) = decode(alloc, front.as_bytes()) else {
+        return false;
+    };
+    slot.resize(272, 0).is_ok() && bytes == slot.as_slice()
+}
+
+// Whether two slots begin with these bytes.
+fn are_slots(alloc: Global, bytes: &[u8], first: &str, second: &str) -> bool {
+    match bytes.split_at_checked(272) {
+        Some((front, back)) => is_slot(alloc, front, first) && is_slot(alloc, back, second),
+        None => false,
+    }
+}
+
+// Whether the slots of a ring of two begin with these bytes.
+fn has_slots(alloc: Global, ring: Ring<MemoryMedium>, first: &str, second: &str) -> bool {
+    let medium = ring.into_medium();
+    are_slots(alloc, medium.content(), first, second)
+}
+
+// Gate, codec, the record's length, the sequence and the record, of which only the time isn't zero.
+#[test]
+fn the_bytes_of_a_slot(rt: HostRuntime) -> Result<(), Fail> {
+    let alloc = rt.alloc();
+    let ring = two_held(alloc, 99).ok_or("a ring")?;
+    let (first, second) = (
+        "a5081e00000000000000000000016b40d8ea30",
+        "a5081e00000000000000010000016b40d8ea30",
+    );
+    assert!(rt; has_slots(alloc, ring, first, second));
+    let mut ring = two_held(alloc, 99).ok_or("a ring")?;
+    assert!(rt; releases(&mut ring));
+    let (first, second) = (
+        "00081e00000000000000000000016b40d8ea30",
+        "00081e00000000000000010000016b40d8ea30",
+    );
+    assert!(rt; has_slots(alloc, ring, first, second));
     Ok(())
 }
 

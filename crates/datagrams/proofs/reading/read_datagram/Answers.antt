@@ -29,7 +29,7 @@ pub overflow_add-result : goal.overflow_add-result
 overflow_add-result c =
     let found = c.in-Err-read_packet.fault in
     let body = c.in-Ok.read.1.now in
-    let e : packet_verdict (length body) body ≡ fault found.kind found.place = sym c.read_packet.ensures ∙ ap (read_verdict (length body)) c.in-Err-read_packet.is in
+    let e : packet_verdict (length body) body ≡ fault found.kind found.place = sym c.read_packet.ensures.verdict ∙ ap (read_verdict (length body)) c.in-Err-read_packet.is in
     omega (arith, packet_fault_place (length body) body found.kind found.place e, c.in-Ok.ensures.few, c.in_ok-numbers.ensures.few, c.in_ok-rest.ensures.few)
 
 pub returns-in-Ok-read_packet-clause-value : goal.returns-in-Ok-read_packet-clause-value
@@ -37,14 +37,14 @@ returns-in-Ok-read_packet-clause-value c =
     let n = c.in_ok-numbers.numbers in
     let body = c.in-Ok.read.1.now in
     let left = at_length c.args.bytes.now ∙ c.in_ok-rest.ensures.read (numbers_rows behind_numbers) ∙ c.in_ok-numbers.ensures.read behind_numbers ∙ c.in-Ok.ensures.read (behind_login n.packet n.unused n.avl_packet) in
-    datagram_read c.args.bytes.now body n.packet n.unused n.avl_packet c.in-Ok.read.0 c.in-Ok-read_packet.field-0 (are_bytes _ (λ i. omega (arith, c.type_inv.bytes i))) left (sym c.read_packet.ensures ∙ ap (read_verdict (length body)) c.in-Ok-read_packet.is)
+    datagram_read c.args.bytes.now body n.packet n.unused n.avl_packet c.in-Ok.read.0 c.in-Ok-read_packet.field-0 (are_bytes _ (λ i. omega (arith, c.type_inv.bytes i))) left (sym c.read_packet.ensures.verdict ∙ ap (read_verdict (length body)) c.in-Ok-read_packet.is)
 
 pub returns-in-Ok-read_packet-clause-datagram : goal.returns-in-Ok-read_packet-clause-datagram
 returns-in-Ok-read_packet-clause-datagram c =
     let n = c.in_ok-numbers.numbers in
     let body = c.in-Ok.read.1.now in
     let left = at_length c.args.bytes.now ∙ c.in_ok-rest.ensures.read (numbers_rows behind_numbers) ∙ c.in_ok-numbers.ensures.read behind_numbers ∙ c.in-Ok.ensures.read (behind_login n.packet n.unused n.avl_packet) in
-    datagram_said c.args.bytes.now body n.packet n.unused n.avl_packet c.in-Ok.read.0 c.in-Ok-read_packet.field-0 (are_bytes _ (λ i. omega (arith, c.type_inv.bytes i))) left (sym c.read_packet.ensures ∙ ap (read_verdict (length body)) c.in-Ok-read_packet.is)
+    datagram_said c.args.bytes.now body n.packet n.unused n.avl_packet c.in-Ok.read.0 c.in-Ok-read_packet.field-0 (are_bytes _ (λ i. omega (arith, c.type_inv.bytes i))) left (sym c.read_packet.ensures.verdict ∙ ap (read_verdict (length body)) c.in-Ok-read_packet.is)
 
 pub returns-in-Err-read_packet-clause-broken : goal.returns-in-Err-read_packet-clause-broken
 returns-in-Err-read_packet-clause-broken c =
@@ -52,4 +52,4 @@ returns-in-Err-read_packet-clause-broken c =
     let found = c.in-Err-read_packet.fault in
     let body = c.in-Ok.read.1.now in
     let left = at_length c.args.bytes.now ∙ c.in_ok-rest.ensures.read (numbers_rows behind_numbers) ∙ c.in_ok-numbers.ensures.read behind_numbers ∙ c.in-Ok.ensures.read (behind_login n.packet n.unused n.avl_packet) in
-    datagram_broken c.args.bytes.now body n.packet n.unused n.avl_packet c.in-Ok.read.0 found.place found.kind left (sym c.read_packet.ensures ∙ ap (read_verdict (length body)) c.in-Err-read_packet.is)
+    datagram_broken c.args.bytes.now body n.packet n.unused n.avl_packet c.in-Ok.read.0 found.place found.kind left (sym c.read_packet.ensures.verdict ∙ ap (read_verdict (length body)) c.in-Err-read_packet.is)

@@ -6,8 +6,8 @@ abbrev pub invariant-pieces : goal.invariant-pieces
 invariant-pieces g l =
     (vec_len l.text ≤ 2 ^ 24)
     × (0 < length l.piece)
-    × Consumes (g.S.Source.left l.initial.source) (g.S.Source.left l.source) l.text.items
-    × (g.S.Source.failures l.source ≡ g.S.Source.failures l.initial.source)
+    × Consumes (g.S.Source.state l.initial.source).left (g.S.Source.state l.source).left l.text.items
+    × ((g.S.Source.state l.source).faults ≡ (g.S.Source.state l.initial.source).faults)
 
 abbrev pub decreases-pieces : goal.decreases-pieces
 decreases-pieces g l = 2 ^ 24 - vec_len l.text

@@ -1,6 +1,6 @@
 use Rattle.std.proofs.Common.{length, refl, ap, sym, ◌∙◌}
 use Rattle.record_codecs.specs.Verdicts.{scan_verdict}
-use Rattle.record_codecs.proofs.BodySteps.{whole_body}
+use Rattle.record_codecs.proofs.MachineSteps.{whole_body}
 use Rattle.record_codecs.proofs.scanning.read_fields.Goals as goal
 
 pub unreachable-requires : goal.unreachable-requires

@@ -18,20 +18,20 @@ returns-then-ne-clause-archived c = λ codec rs f.
 
 pub returns-in-Err-clause-counted : goal.returns-in-Err-clause-counted
 returns-in-Err-clause-counted c = λ codec rs f.
-    absurd (no_fault _ _ _ _ (c.in-Err.ensures ∙ same_verdict codec rs c.args.frame.now c.body_in-body.result.now f c.body_in-body.ensures))
+    absurd (no_fault _ _ _ _ (c.in-Err.ensures.verdict ∙ same_verdict codec rs c.args.frame.now c.body_in-body.result.now f c.body_in-body.ensures))
 
 pub returns-in-Err-clause-archived : goal.returns-in-Err-clause-archived
 returns-in-Err-clause-archived c = λ codec rs f.
-    absurd (no_fault _ _ _ _ (c.in-Err.ensures ∙ same_verdict codec rs c.args.frame.now c.body_in-body.result.now f c.body_in-body.ensures))
+    absurd (no_fault _ _ _ _ (c.in-Err.ensures.verdict ∙ same_verdict codec rs c.args.frame.now c.body_in-body.result.now f c.body_in-body.ensures))
 
 pub returns-in_ok-store-in-Ok-clause-counted : goal.returns-in_ok-store-in-Ok-clause-counted
 returns-in_ok-store-in-Ok-clause-counted c = λ codec rs f.
-    let head = same_head _ _ _ _ (c.in-Ok.ensures ∙ same_verdict codec rs c.args.frame.now c.body_in-body.result.now f c.body_in-body.ensures) in
+    let head = same_head _ _ _ _ (c.in-Ok.ensures.verdict ∙ same_verdict codec rs c.args.frame.now c.body_in-body.result.now f c.body_in-body.ensures) in
     ap (λ (h : PacketHead). Some h.count) head
 
 pub returns-in_ok-store-in-Ok-clause-archived : goal.returns-in_ok-store-in-Ok-clause-archived
 returns-in_ok-store-in-Ok-clause-archived c = λ codec rs f.
-    let head = same_head _ _ _ _ (c.in-Ok.ensures ∙ same_verdict codec rs c.args.frame.now c.body_in-body.result.now f c.body_in-body.ensures) in
+    let head = same_head _ _ _ _ (c.in-Ok.ensures.verdict ∙ same_verdict codec rs c.args.frame.now c.body_in-body.result.now f c.body_in-body.ensures) in
     let is : c.in-Ok.head.codec ≡ codec = ap (λ (h : PacketHead). h.codec) head in
     let packet = same_packet codec rs c.args.frame.now c.body_in-body.result.now f c.body_in-body.ensures in
     c.in_ok-store-in-Ok.ensures rs (subst (λ d. IsPacket d rs c.body_in-body.result.now) (sym is) packet) ∙ ap (λ d. fold add_once c.args.archive.now (records_with d rs)) is
@@ -39,4 +39,4 @@ returns-in_ok-store-in-Ok-clause-archived c = λ codec rs f.
 pub returns-in_ok-store-in-Ok-clause-whole : goal.returns-in_ok-store-in-Ok-clause-whole
 returns-in_ok-store-in-Ok-clause-whole c = λ _.
     let same = same_if_equal c.as_slice.result.now c.args.frame.now c.ne.result c.ne.ensures c.if-ne.false in
-    accepted c.args.frame.now c.body_in-body.result.now c.in-Ok.head _ c.body_in-body.ensures c.in-Ok.ensures (sym (c.as_slice.ensures.value ∙ c.in_ok-whole-in-Ok.ensures) ∙ same)
+    accepted c.args.frame.now c.body_in-body.result.now c.in-Ok.head _ c.body_in-body.ensures c.in-Ok.ensures.verdict (sym (c.as_slice.ensures.value ∙ c.in_ok-whole-in-Ok.ensures) ∙ same)

@@ -2,7 +2,7 @@ use Rattle.record_codecs.proofs.Turns.{plain_turn, total_turn, pairs_turn, tripl
 use Rattle.record_codecs.proofs.in_record.RecordState.after_part.Goals as goal
 
 pub returns-in-Plain-clause-follows : goal.returns-in-Plain-clause-follows
-returns-in-Plain-clause-follows c field width reads = plain_turn c.args.self c.in-Plain.field-0 c.args.part field c.next_part.result c.in-Plain.is c.next_part.ensures.rows
+returns-in-Plain-clause-follows c field width reads = plain_turn c.args.self c.in-Plain.field-0 c.in-Plain.field-1 c.args.part field c.next_part.result c.in-Plain.is c.next_part.ensures.rows
 
 pub returns-in-Total-clause-follows : goal.returns-in-Total-clause-follows
 returns-in-Total-clause-follows c field width reads =

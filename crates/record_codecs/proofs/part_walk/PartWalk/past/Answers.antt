@@ -11,14 +11,14 @@ pub returns-in_err-rest-in-Plain : goal.returns-in_err-rest-in-Plain
 returns-in_err-rest-in-Plain c =
     let s = c.args.self in
     let short : length s.rest.now < bytes_of c.in-Plain.width = omega (arith, c.in_err-rest-in-Plain.ensures) in
-    at_none c.from_residual.result _ _ c.from_residual.ensures (few_part c.args.part (Plain c.in-Plain.width) c.args.left.now s.total s.counted s.rest.now c.in-Plain.is short)
+    at_none c.from_residual.result _ _ c.from_residual.ensures (few_part c.args.part (Plain c.in-Plain.field-0 c.in-Plain.width) c.args.left.now s.total s.counted s.rest.now c.in-Plain.is short)
 
 pub returns-in_ok-rest-in-Plain : goal.returns-in_ok-rest-in-Plain
 returns-in_ok-rest-in-Plain c =
     let s = c.args.self in
     let width : c.from.result ≡ bytes_of c.in-Plain.width = omega arith in
     let fits : bytes_of c.in-Plain.width ≤ length s.rest.now = omega (arith, c.in_ok-rest-in-Plain.ensures.0) in
-    past_plain c.args.part c.in-Plain.width c.args.left.now s.total s.counted s.rest.now c.in_ok-rest-in-Plain.rest.now c.in-Plain.is fits (c.in_ok-rest-in-Plain.ensures.1 ∙ ap (λ w. drop w s.rest.now) width)
+    past_plain c.args.part c.in-Plain.field-0 c.in-Plain.width c.args.left.now s.total s.counted s.rest.now c.in_ok-rest-in-Plain.rest.now c.in-Plain.is fits (c.in_ok-rest-in-Plain.ensures.1 ∙ ap (λ w. drop w s.rest.now) width)
 
 pub returns-in_err-total-in-Total : goal.returns-in_err-total-in-Total
 returns-in_err-total-in-Total c =

@@ -1,33 +1,16 @@
--- The device was listed, or is new.
-use Rattle.shelf.proofs.Heads.{device-key-is, note-known, note-new, devices-most}
+use Rattle.std.proofs.Common.{refl, arith}
+use Rattle.shelf.specs.Archive.{stored}
+use Rattle.shelf.proofs.Counted.{counted-known, counted-new, devices-most, found-in, updates-at}
 use Rattle.shelf.proofs.devices.Devices.note.Goals as goal
 
-pub returns-in-Some-clause-headed : goal.returns-in-Some-clause-headed
-returns-in-Some-clause-headed c = (note-known _ _ _ _ c.requires.some c.requires.grown c.requires.headed _ c.in-Some.ensures.found c.in-Some.ensures.some).0
+pub returns-in-Some-clause-counted : goal.returns-in-Some-clause-counted
+returns-in-Some-clause-counted c r =
+    counted-known c.args.list.now c.args.self.now (stored c.args.imei r) _ c.requires.counted (found-in c.args.self.now.firsts _ _ _ _ _ c.number-number.ensures.value c.copied.ensures c.get.ensures.value c.in-Some.is)
 
-pub returns-in-Some-clause-new : goal.returns-in-Some-clause-new
-returns-in-Some-clause-new c = (note-known _ _ _ _ c.requires.some c.requires.grown c.requires.headed _ c.in-Some.ensures.found c.in-Some.ensures.some).1
+pub overflow_add-self : goal.overflow_add-self
+overflow_add-self c = let count = c.requires.counted.count in let most = devices-most c.args.list.now in let few = c.requires.few in omega arith
 
-pub returns-in-Some-clause-fits : goal.returns-in-Some-clause-fits
-returns-in-Some-clause-fits c = devices-most _
-
-pub returns-in_err-insert-in-None-clause-fits : goal.returns-in_err-insert-in-None-clause-fits
-returns-in_err-insert-in-None-clause-fits c = devices-most _
-
-pub returns-in_ok-insert-in-None-clause-before : goal.returns-in_ok-insert-in-None-clause-before
-returns-in_ok-insert-in-None-clause-before c =
-    (note-new _ _ c.args.self.now.heads c.args.imei c.requires.some c.requires.grown c.requires.headed _ _ (device-key-is c.args.imei c.number.result c.new.result.items c.number.ensures.value c.new.ensures.items)
-    c.in-None.ensures.none c.in_ok-insert-in-None.ensures.ok).0
-
-pub returns-in_ok-insert-in-None-clause-headed : goal.returns-in_ok-insert-in-None-clause-headed
-returns-in_ok-insert-in-None-clause-headed c =
-    (note-new _ _ c.args.self.now.heads c.args.imei c.requires.some c.requires.grown c.requires.headed _ _ (device-key-is c.args.imei c.number.result c.new.result.items c.number.ensures.value c.new.ensures.items)
-    c.in-None.ensures.none c.in_ok-insert-in-None.ensures.ok).1
-
-pub returns-in_ok-insert-in-None-clause-new : goal.returns-in_ok-insert-in-None-clause-new
-returns-in_ok-insert-in-None-clause-new c =
-    (note-new _ _ c.args.self.now.heads c.args.imei c.requires.some c.requires.grown c.requires.headed _ _ (device-key-is c.args.imei c.number.result c.new.result.items c.number.ensures.value c.new.ensures.items)
-    c.in-None.ensures.none c.in_ok-insert-in-None.ensures.ok).2
-
-pub returns-in_ok-insert-in-None-clause-fits : goal.returns-in_ok-insert-in-None-clause-fits
-returns-in_ok-insert-in-None-clause-fits c = devices-most _
+pub returns-in_ok-insert-in-None-clause-counted : goal.returns-in_ok-insert-in-None-clause-counted
+returns-in_ok-insert-in-None-clause-counted c r =
+    counted-new c.args.list.now c.args.self.now _ (stored c.args.imei r) _ c.requires.counted (found-in c.args.self.now.firsts _ _ _ _ _ c.number-number.ensures.value c.copied.ensures c.get.ensures.value c.in-None.is) refl
+    (updates-at c.args.self.now.firsts c.insert.new.self _ _ _ c.number-number.ensures.value c.in_ok-insert-in-None.ensures.updates) refl

@@ -1,4 +1,6 @@
+use Rattle.std.proofs.Common.{ap, ◌∙◌}
 use Rattle.std.proofs.lemmas.Result.{on_ok_weaker}
+use Rattle.record_codecs.specs.Shown.{generation_in}
 use Rattle.show_lines.proofs.RecordSent.{tokens_by}
 use Rattle.show_lines.proofs.Sending.{after, key_sent, said_as}
 use Rattle.show_lines.proofs.record.RecordLineSerialize.serialize.Goals as goal
@@ -6,10 +8,10 @@ use Rattle.show_lines.proofs.record.RecordLineSerialize.serialize.Goals as goal
 pub returns : goal.returns
 returns g c = on_ok_weaker c.end.result
     (λ sent v is.
-    let shows = c.view-record.ensures v is in
+    let shows = c.view-record.ensures.shows v is in
     let gps = c.gps-gps.ensures v shows in
     let event = c.event.ensures v shows in
-    let generation = c.generation.ensures v shows in
+    let generation = c.generation.ensures v shows ∙ ap (λ k. generation_in k v) c.view-record.ensures.codec in
     let ios = c.ios.ensures v shows in
     let nx = c.nx.ensures v shows in
     let priority = c.priority.ensures v shows in

@@ -1,0 +1,14 @@
+pub mod Totals
+pub mod Views
+pub mod Histories
+pub mod Draw
+pub mod Look
+pub mod Publish
+pub mod Split
+pub mod Join
+pub mod Start
+pub mod Close
+pub mod Shelves
+pub mod Turns
+pub mod Deal
+pub mod Taking

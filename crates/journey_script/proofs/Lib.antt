@@ -1,0 +1,11 @@
+pub mod ConnectionLemmas
+pub mod FieldLemmas
+pub mod FieldSpelling
+pub mod LineSpelling
+pub mod ReadingLemmas
+pub mod ScriptLaws
+pub mod SettingLaws
+pub mod StandingLemmas
+pub mod Values
+pub mod WritingLemmas
+pub mod WrittenLemmas

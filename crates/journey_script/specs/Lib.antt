@@ -1,0 +1,15 @@
+pub mod Compact
+pub mod Drive
+pub mod Faults
+pub mod FieldsLeft
+pub mod Grammar
+pub mod Later
+pub mod Laws
+pub mod Lines
+pub mod Numbers
+pub mod Standing
+pub mod Table
+pub mod Taking
+pub mod Words
+pub mod Writing
+pub mod WrittenText

@@ -1,6 +1,0 @@
-use Rattle.std.proofs.Common.{arith}
-use Rattle.layout.proofs.Numbers.{are_bytes}
-use Rattle.record_writing.proofs.put.put_all.Goals as goal
-
-pub returns-clause-fit : goal.returns-clause-fit
-returns-clause-fit c = are_bytes _ (λ k. omega (arith, c.type_inv.bytes k))

@@ -1,0 +1,14 @@
+pub mod Archiving
+pub mod Calling
+pub mod Completing
+pub mod Courses
+pub mod Ended
+pub mod Going
+pub mod Hearing
+pub mod Piecing
+pub mod Reading
+pub mod Serving
+pub mod Taking
+pub mod Telling
+pub mod Wording
+pub mod Working

@@ -1,0 +1,12 @@
+pub mod Archived
+pub mod Complete
+pub mod Doings
+pub mod Endings
+pub mod Givings
+pub mod Knowing
+pub mod Readings
+pub mod Serving
+pub mod SessionCalls
+pub mod Sessions
+pub mod Talks
+pub mod Works

@@ -1,0 +1,4 @@
+pub mod Memory
+pub mod Refused
+pub mod States
+pub mod Writes

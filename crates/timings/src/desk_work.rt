@@ -1,0 +1,93 @@
+ghost use Rattle.desk.specs.Desks.{AreNewSeats};
+
+use crate::bodies::timed_body;
+use avl_values::Imei;
+use desk::{Desk, DeskSeat};
+use medium::MemoryMedium;
+use record_codecs::read_packet;
+use shelf::{Admit, Shelf};
+use std::alloc::Global;
+use std::sync::Wait;
+use std::thread;
+use std::thread::Threads;
+
+/// A seat at the desk, with the first of its calls, how many there are, and how many were stored.
+#[derive(Drop)]
+struct Session<'a, R: Wait> {
+    at: DeskSeat<'a, R, MemoryMedium>,
+    first: u64,
+    calls: u64,
+    stored: u64,
+}
+
+impl<'a, R: Wait> Session<'a, R> {
+    /// Admits a packet of one record; whether it was stored.
+    fn admit(&mut self, alloc: Global, number: u64) -> bool {
+        let Ok(body) = timed_body(alloc, number, 1) else {
+            return false;
+        };
+        let Some(imei) = Imei::from_number(number % 1_000) else {
+            return false;
+        };
+        if body.len() > 100 {
+            return false;
+        }
+        match read_packet(&body) {
+            Ok(_) => self.at.admit(imei, &body).is_ok(),
+            Err(_) => false,
+        }
+    }
+
+    fn run(&mut self, alloc: Global) {
+        for call in 0..self.calls {
+            let number = self.first.saturating_add(call);
+            if self.admit(alloc, number) {
+                self.stored = self.stored.saturating_add(1);
+            }
+        }
+    }
+}
+
+/// Admits so many packets of one record over a medium in memory, by so many seats of one desk, each in a thread of its own; how many
+/// were stored, and how many records are listed at the end.
+pub fn admit<R: Threads + Wait + Sync>(
+    rt: &R,
+    alloc: Global,
+    calls: u64,
+    seats: u64,
+) -> Option<(u64, u64)> {
+    let Ok(medium) = MemoryMedium::new(alloc, &[], &[]) else {
+        return None;
+    };
+    let Ok(shelf) = Shelf::open(alloc, medium) else {
+        return None;
+    };
+    if shelf.is_down() || seats < 1 || seats > 64 {
+        return None;
+    }
+    let Ok((desk, mut places)) = Desk::new(alloc, shelf, seats as u32) else {
+        return None;
+    };
+    let mut sessions = Vec::new(alloc);
+    for number in 0..seats {
+        let seat = places.pop()?;
+        let session = Session {
+            at: DeskSeat::new(rt, &desk, seat),
+            first: number * 1_000_000,
+            calls: calls / seats,
+            stored: 0,
+        };
+        sessions.push(session).ok()?;
+    }
+    let count = sessions.len();
+    thread::for_each_mut(
+        rt,
+        sessions.as_mut_slice(),
+        count,
+        &|_: usize, session: &mut Session<'_, R>| session.run(alloc),
+    );
+    let stored = sessions
+        .iter()
+        .fold(0u64, |sum, session| sum.saturating_add(session.stored));
+    Some((stored, stored))
+}
