@@ -1,8 +1,8 @@
-ghost use Rattle.desk.specs.Desks.{AreNewSeats};
+ghost use Rattle.desk.specs.Desks.{AreSeatsOf};
 
 use crate::bodies::timed_body;
 use avl_values::Imei;
-use desk::{Desk, DeskSeat};
+use desk::{Desk, DeskSeat, Seat};
 use medium::MemoryMedium;
 use record_codecs::read_packet;
 use shelf::{Admit, Shelf};
@@ -48,8 +48,70 @@ impl<'a, R: Wait> Session<'a, R> {
     }
 }
 
-/// Admits so many packets of one record over a medium in memory, by so many seats of one desk, each in a thread of its own; how many
-/// were stored, and how many records are listed at the end.
+/// A session for each seat.
+fn seated<'a, R: Wait>(
+    rt: &'a R,
+    alloc: Global,
+    desk: &'a Desk<MemoryMedium>,
+    mut places: Vec<Seat<MemoryMedium>>,
+    seats: u64,
+    calls: u64,
+) -> Option<Vec<Session<'a, R>>>
+    requires { AreSeatsOf desk.now places.items }
+{
+    let mut sessions = Vec::new(alloc);
+    for number in 0..seats {
+        let seat = places.pop()?;
+        let session = Session {
+            at: DeskSeat::new(rt, desk, seat),
+            first: number.saturating_mul(1_000_000),
+            calls,
+            stored: 0,
+        };
+        sessions.push(session).ok()?;
+    }
+    Some(sessions)
+}
+
+/// Runs each session in a thread of its own; how many packets were stored.
+fn run_all<R: Threads + Wait + Sync>(
+    rt: &R,
+    alloc: Global,
+    sessions: &mut [Session<'_, R>],
+) -> u64 {
+    let count = sessions.len().max(1);
+    thread::for_each_mut(
+        rt,
+        sessions,
+        count,
+        &|_: usize, session: &mut Session<'_, R>| session.run(alloc),
+    );
+    let mut stored: u64 = 0;
+    for session in sessions.iter() {
+        stored = stored.saturating_add(session.stored);
+    }
+    stored
+}
+
+/// Makes the calls by so many seats of one desk, each in a thread of its own; how many packets were stored.
+fn at_desk<R: Threads + Wait + Sync>(
+    rt: &R,
+    alloc: Global,
+    shelf: Shelf<MemoryMedium>,
+    calls: u64,
+    seats: u64,
+) -> Option<u64> {
+    if shelf.is_down() || seats < 1 || seats > 64 {
+        return None;
+    }
+    let Ok((desk, places)) = Desk::new(alloc, shelf, seats as u32) else {
+        return None;
+    };
+    let mut sessions = seated(rt, alloc, &desk, places, seats, calls / seats)?;
+    Some(run_all(rt, alloc, sessions.as_mut_slice()))
+}
+
+/// Admits so many packets of one record, over a medium in memory, by so many seats; how many were stored, and by how many seats.
 pub fn admit<R: Threads + Wait + Sync>(
     rt: &R,
     alloc: Global,
@@ -62,32 +124,5 @@ pub fn admit<R: Threads + Wait + Sync>(
     let Ok(shelf) = Shelf::open(alloc, medium) else {
         return None;
     };
-    if shelf.is_down() || seats < 1 || seats > 64 {
-        return None;
-    }
-    let Ok((desk, mut places)) = Desk::new(alloc, shelf, seats as u32) else {
-        return None;
-    };
-    let mut sessions = Vec::new(alloc);
-    for number in 0..seats {
-        let seat = places.pop()?;
-        let session = Session {
-            at: DeskSeat::new(rt, &desk, seat),
-            first: number * 1_000_000,
-            calls: calls / seats,
-            stored: 0,
-        };
-        sessions.push(session).ok()?;
-    }
-    let count = sessions.len();
-    thread::for_each_mut(
-        rt,
-        sessions.as_mut_slice(),
-        count,
-        &|_: usize, session: &mut Session<'_, R>| session.run(alloc),
-    );
-    let stored = sessions
-        .iter()
-        .fold(0u64, |sum, session| sum.saturating_add(session.stored));
-    Some((stored, stored))
+    Some((at_desk(rt, alloc, shelf, calls, seats)?, seats))
 }
