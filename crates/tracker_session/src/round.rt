@@ -1,5 +1,5 @@
 //! One connection of a device.
-ghost use Rattle.std.specs.Prelude.{◌≡◌, ◌⊎◌, ◌+◌, ◌<◌, ◌≤◌, ◌^◌, ◌++◌, [], true, false, length, take, IfNone, Some, IsSome, ℕ, List, Ok};
+ghost use Rattle.std.specs.Prelude.{◌↔◌, ◌≡◌, ◌⊎◌, ◌+◌, ◌<◌, ◌≤◌, ◌^◌, ◌++◌, [], true, false, length, take, IfNone, Some, IsSome, ℕ, List, Ok};
 ghost use Rattle.avl_values.specs.Causes.{Rose};
 ghost use Rattle.flash_ring.specs.Entries.{held_of};
 ghost use Rattle.flash_ring.specs.Ring.{IsDurable};
@@ -184,6 +184,8 @@ pub fn connect<M: Medium, L: Link, S: Shell>(
     requires some { 0 < most }
     ensures silent { tracker.new ≡ silent (record tracker.old { ring = tracker.new.ring }) }
     ensures round { IsRound (record { says = S.says; obeyed = S.obeyed }) (round_by tracker.old most shell.old) (Rose (L.state link.old).faults (L.state link.new).faults) tracker.old.ring tracker.new.ring shell.new (L.state link.old).told (L.state link.new).told result }
+    ensures empty { result ≡ Ok RoundEnd.Empty ↔ (held_of tracker.old.ring.slots ≡ []) }
+    ensures nothing { result ≡ Ok RoundEnd.Empty → (link.new ≡ link.old) × (shell.new ≡ shell.old) }
     ensures broken { BreaksWith result (L.state link.old) (L.state link.new) }
     ensures follows { L.follows link.old link.new }
 {

@@ -326,6 +326,8 @@ impl<M: Medium> Tracker<M> {
         ensures silent { self.new ≡ silent (record self.old { ring = self.new.ring }) }
         ensures round { IsRound (record { says = S.says; obeyed = S.obeyed }) (round_by self.old most shell.old) (Rose (L.state link.old).faults (L.state link.new).faults) self.old.ring self.new.ring shell.new (L.state link.old).told (L.state link.new).told result }
         ensures ring { (heard : ℕ) × (released : List Record) × RoundsRing result heard released self.old.ring self.new.ring }
+        ensures empty { result ≡ Ok RoundEnd.Empty ↔ (held_of self.old.ring.slots ≡ []) }
+        ensures nothing { result ≡ Ok RoundEnd.Empty → (link.new ≡ link.old) × (shell.new ≡ shell.old) }
         ensures broken { BreaksWith result (L.state link.old) (L.state link.new) }
         ensures follows { L.follows link.old link.new }
     {
