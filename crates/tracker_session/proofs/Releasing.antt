@@ -1,28 +1,27 @@
 -- What a round does to the records that are held.
-use Rattle.std.proofs.Common.{◌≡◌, ◌≢◌, ◌⊎◌, inl, inr, ◌↔◌, ℕ, zero, suc, ◌+◌, ◌<◌, ◌≤◌, ◌==◌, ◌||◌, if◌then◌else◌, Bool, true, false, IsTrue, List, [], ◌∷◌, ◌++◌, length, Option, Some, None, slice_get, set, Ok, Err, IsErr, Result, refl, sym, ap, subst, ◌∙◌, append-nil, arith, length-append, length-set, get_or-set_same}
+use Rattle.std.proofs.Common.{◌≡◌, ◌⊎◌, inl, inr, ℕ, suc, ◌+◌, ◌==◌, if◌then◌else◌, true, false, IsTrue, List, [], ◌∷◌, ◌++◌, length, Option, Some, None, slice_get, set, Ok, Err, IsErr, Result, refl, sym, ap, subst, ◌∙◌, append-nil, arith, length-append, length-set, get_or-set_same}
 use Rattle.std.proofs.lemmas.Bool.{false≢true}
 use Rattle.std.proofs.lemmas.Option.{get_or_from_slice_get, slice_get_within}
-use Rattle.std.specs.List.{Contains, cons_option}
+use Rattle.std.specs.List.{cons_option}
 use Rattle.avl_values.specs.declared.errors.MediumFault.{MediumFault}
 use Rattle.avl_values.specs.declared.order.Order.{Order}
 use Rattle.avl_values.specs.Record.{Record}
 use Rattle.item_streams.specs.Streams.{values}
 use Rattle.links.specs.Links.{Traffic}
-use Rattle.medium_model.specs.State.{Counted}
 use Rattle.medium_model.proofs.Images.{counted-as, counted-none}
 use Rattle.frame_layout.specs.Values.{DownValue, answer, count, order}
 use Rattle.flash_ring.specs.Entries.{held_of, selected}
 use Rattle.flash_ring.specs.Held.{Held, closed_all, rec_at, rec_in}
 use Rattle.flash_ring.specs.Images.{AreDistinct, AreOpen, MayClose, has_slot}
 use Rattle.flash_ring.specs.Records.{recs_in}
-use Rattle.flash_ring.specs.Ring.{EachHolds, IsDurable, RingView}
+use Rattle.flash_ring.specs.Ring.{IsDurable, RingView}
 use Rattle.flash_ring.proofs.Batches.{held_of-kept}
-use Rattle.flash_ring.proofs.Closes.{closes-more, has-cases, has-here, has-there, holds-map, length-closed_all, may-close_all}
+use Rattle.flash_ring.proofs.Closes.{closes-more, has-cases, has-here, has-there, holds-map, may-close_all}
 use Rattle.flash_ring.proofs.HeldRecords.{held_of-may_close, length-held_of_closed, next_of-may_close, selected-distinct, selected-open}
 use Rattle.tracker_session.specs.Responses.{ShellMeaning}
 use Rattle.tracker_session.specs.RingRounds.{IsReleased, IsRingEnd, RoundsRing}
-use Rattle.tracker_session.specs.RoundStates.{AllFit, Fits, Round, RoundState, accepts, after, counts, next, next_batch, sends, slots_now, starts}
-use Rattle.tracker_session.specs.Rounds.{Ends, FailsInside, IsRound, Leaves, Rests, Stops, StopsAt, cut, empty, talked}
+use Rattle.tracker_session.specs.RoundStates.{AllFit, Fits, Round, RoundState, after, next, starts}
+use Rattle.tracker_session.specs.Rounds.{Ends, FailsInside, IsRound, Leaves, Stops, cut, empty, talked}
 use Rattle.tracker_session.specs.Turns.{batch_now}
 use Rattle.tracker_session.specs.declared.heard.Got.TheVariants as got
 use Rattle.tracker_session.specs.declared.round_end.RoundEnd.{RoundEnd}
@@ -163,7 +162,7 @@ module _ {S : Type 0} (m : ShellMeaning S) (r : Round S) where
 released-left : (ks : List ℕ) (before left : List (Option Held)) → MayClose ks before left → IsReleased (recs_in before ks) before left
 released-left ks before left may = record { part = held_of-may_close ks before left may; next = next_of-may_close ks before left may; keeps = held_of-kept ks before left may }
 
-module _ {S : Type 0} (m : ShellMeaning S) (r : Round S) (old : RingView) (durable : IsDurable old) (same : r.slots ≡ old.slots) where
+module _ {S : Type 0} (m : ShellMeaning S) (r : Round S) (old : RingView) (durable : IsDurable old) (same : r.slots ≡ old.slots) (rose : Type 0) where
   -- a round that didn't fail
   leaves-ring : (result : Result RoundEnd MediumFault) (d : RoundState S) (new : RingView) (t : S) → AreGiven r.slots (d.closed ++ d.batch) → Leaves m r d old new t → (IsErr result → ⊥) → IsRingEnd result old new
       → RoundsRing result d.frames (recs_in old.slots d.closed) old new
@@ -237,7 +236,7 @@ module _ {S : Type 0} (m : ShellMeaning S) (r : Round S) (old : RingView) (durab
       let before : length (held_of r.slots) ≡ length (held_of old.slots) = ap (λ (s : List (Option Held)). length (held_of s)) same in
       omega arith
 
-  stops-ring : (result : Result RoundEnd MediumFault) (taken : List ℕ) (new : RingView) (t : S) (x y : Option Traffic) → Stops m r result taken old new t x y → Released result new
+  stops-ring : (result : Result RoundEnd MediumFault) (taken : List ℕ) (new : RingView) (t : S) (x y : Option Traffic) → Stops m r rose result taken old new t x y → Released result new
   stops-ring (Ok (end.Done n)) taken new t x y s =
       let d = after m r (starts r) (values s.items) in
       let given = given-next m r d s.last.value (given-after m r (starts r) (values s.items) (given-starts m r)) in
@@ -255,7 +254,7 @@ module _ {S : Type 0} (m : ShellMeaning S) (r : Round S) (old : RingView) (durab
       let d = after m r (starts r) (values s.items) in
       (d.frames + 1, recs_in old.slots (d.closed ++ d.batch), fails-ring failed d new t (given-after m r (starts r) (values s.items) (given-starts m r)) s.stops.2)
 
-  ends-ring : (result : Result RoundEnd MediumFault) (taken : List ℕ) (new : RingView) (t : S) (x y : Option Traffic) → Ends m r result taken old new t x y → Released result new
+  ends-ring : (result : Result RoundEnd MediumFault) (taken : List ℕ) (new : RingView) (t : S) (x y : Option Traffic) → Ends m r rose result taken old new t x y → Released result new
   ends-ring (Ok (end.Done n)) taken new t x y s = stops-ring (Ok (end.Done n)) taken new t x y s
   ends-ring (Ok end.Empty) taken new t x y s = stops-ring (Ok end.Empty) taken new t x y s
   ends-ring (Ok end.Refused) taken new t x y s = stops-ring (Ok end.Refused) taken new t x y s
@@ -271,9 +270,9 @@ module _ {S : Type 0} (m : ShellMeaning S) (r : Round S) (old : RingView) (durab
   ends-ring (Err failed) taken new t x y s = stops-ring (Err failed) taken new t x y s
 
   -- What a round does to a ring, by how it went.
-  pub rounds-ring : (result : Result RoundEnd MediumFault) (new : RingView) (t : S) (x y : Option Traffic) → IsRound m r old new t x y result → Released result new
+  pub rounds-ring : (result : Result RoundEnd MediumFault) (new : RingView) (t : S) (x y : Option Traffic) → IsRound m r rose old new t x y result → Released result new
   rounds-ring result new t x y (empty none is shell told) =
       let P : RingView → Type 0 = λ v. RoundsRing (Ok end.Empty) 0 [] old v in (0, [], subst P (sym is) (quiet-ring end.Empty none))
-  rounds-ring result new t x y (cut is shell part) =
+  rounds-ring result new t x y (cut is shell part up) =
       let P : RingView → Type 0 = λ v. RoundsRing (Ok end.Broken) 0 [] old v in (0, [], subst P (sym is) (quiet-ring end.Broken tt))
   rounds-ring result new t x y (talked is taken z login ends) = ends-ring result taken new t z y ends

@@ -43,12 +43,12 @@ some-reached (some_left k) ks before slots may = closes-more (take (k + 1) ks) k
 some-reached exhausted ks before slots may = closes-more (take 1 ks) ks before slots (λ j has. has_slot-take 1 ks j has) may
 
 module _ {S : Type 0} (m : ShellMeaning S) (r : Round S) (bytes taken piece back : List ℕ) (n : ℕ) (old : RingView) (v : TrackerView) (p : Progress) (s : S) (x y : Option Traffic) (g : Goes m r bytes taken old v p s x y)
-    (split : taken ≡ (bytes ++ take n piece) ++ back) where
+    (split : taken ≡ (bytes ++ take n piece) ++ back) (rose : Type 0) where
   -- the item at which it stops
   stops-at : (e : Result RoundEnd MediumFault) (item : DownValue) (ring : RingView) (t : S) (z : Option Traffic) (then_ : List ℕ) → down_verdict v.answered (v.have ++ take n piece) ≡ whole item (length (v.have ++ take n piece))
-      → StopsAt m r e g.state item old ring t then_ → Moves [] then_ y z → Stops m r e taken old ring t x z
+      → StopsAt m r rose e g.state item old ring t then_ → Moves [] then_ y z → Stops m r rose e taken old ring t x z
   stops-at e item ring t z then_ verdict stops sent =
-      let P : RoundState S → Type 0 = λ d. StopsAt m r e d item old ring t then_ in
+      let P : RoundState S → Type 0 = λ d. StopsAt m r rose e d item old ring t then_ in
       record {
         heard = bytes ++ take n piece;
         back = back;
@@ -71,8 +71,8 @@ module _ {S : Type 0} (m : ShellMeaning S) (r : Round S) (bytes taken piece back
 
   -- a batch went out in part, or there was none to send
   batch-stops : (e : Result RoundEnd MediumFault) (item : DownValue) (d : RoundState S) (u w : TrackerView) (p0 q : Progress) (t : S) (z : Option Traffic) → down_verdict v.answered (v.have ++ take n piece) ≡ whole item (length (v.have ++ take n piece))
-      → Fits m r g.state item → next m r g.state item ≡ sends m r d → writes m r g.state item ≡ frame_in (slots_now m r d) (next_batch m r d) → Stands m r d old u p0 t → SendsBatch (Some e) u w p0 q y z → Ends m r e taken old w.ring t x z
-  batch-stops (Ok (end.Done k)) item d u w p0 q t z verdict fits is_next says at sent =
+      → Fits m r g.state item → next m r g.state item ≡ sends m r d → writes m r g.state item ≡ frame_in (slots_now m r d) (next_batch m r d) → Stands m r d old u p0 t → SendsBatch (Some e) u w p0 q y z → (e ≡ Ok end.Broken → rose) → Ends m r rose e taken old w.ring t x z
+  batch-stops (Ok (end.Done k)) item d u w p0 q t z verdict fits is_next says at sent cause =
       let none : next_batch m r d ≡ [] = sym (batch-same m r d old u p0 t at) ∙ sent.0 in
       let ring : w.ring ≡ u.ring = ap (λ (j : TrackerView). j.ring) sent.1 in
       let P : RoundState S → Type 0 = λ j. Leaves m r j old w.ring t × (j.batch ≡ []) × (k ≡ length j.closed) × ((j.left ≡ 0) ⊎ (held_of w.ring.slots ≡ [])) in
@@ -83,9 +83,9 @@ module _ {S : Type 0} (m : ShellMeaning S) (r : Round S) (bytes taken piece back
       ] in
       let f = subst P (sym is_next) (record { ring = l.ring; durable = l.durable; counted = l.counted; untouched = l.untouched; shell = l.shell }, none, sent.4 ∙ at.done, drained) in
       stops-at (Ok (end.Done k)) item w.ring t z [] verdict (fits, f.0, f.1, f.2, f.3, refl) (quiet z sent.3)
-  batch-stops (Ok end.Empty) item d u w p0 q t z verdict fits is_next says at sent = absurd sent
-  batch-stops (Ok end.Refused) item d u w p0 q t z verdict fits is_next says at sent = absurd sent
-  batch-stops (Ok end.Broken) item d u w p0 q t z verdict fits is_next says at sent =
+  batch-stops (Ok end.Empty) item d u w p0 q t z verdict fits is_next says at sent cause = absurd sent
+  batch-stops (Ok end.Refused) item d u w p0 q t z verdict fits is_next says at sent cause = absurd sent
+  batch-stops (Ok end.Broken) item d u w p0 q t z verdict fits is_next says at sent cause =
       let ring : w.ring ≡ u.ring = ap (λ (j : TrackerView). j.ring) sent.1 in
       let l = leaves-as d u.ring w.ring t t at.leaves ring refl in
       let P : RoundState S → Type 0 = λ j. Leaves m r j old w.ring t in
@@ -93,13 +93,13 @@ module _ {S : Type 0} (m : ShellMeaning S) (r : Round S) (bytes taken piece back
       let same : frame_in u.ring.slots (batch_now p0.left u.order u.ring.slots) ≡ writes m r g.state item = frame-same m r d old u p0 t at ∙ sym says in
       let Q : List ℕ → Type 0 = λ b. WritesPart b y z in
       let part = subst Q same sent.2 in
-      inr (stops-at (Ok end.Broken) item w.ring t z (take part.0 (writes m r g.state item)) verdict (fits, f, (part.0, part.1, refl)) part.2)
-  batch-stops (Ok (end.WrongAnswer got)) item d u w p0 q t z verdict fits is_next says at sent = absurd sent
-  batch-stops (Ok end.TooManyCommands) item d u w p0 q t z verdict fits is_next says at sent = absurd sent
-  batch-stops (Err failed) item d u w p0 q t z verdict fits is_next says at sent = absurd sent
+      inr (stops-at (Ok end.Broken) item w.ring t z (take part.0 (writes m r g.state item)) verdict (fits, f, (part.0, part.1, refl), cause refl) part.2)
+  batch-stops (Ok (end.WrongAnswer got)) item d u w p0 q t z verdict fits is_next says at sent cause = absurd sent
+  batch-stops (Ok end.TooManyCommands) item d u w p0 q t z verdict fits is_next says at sent cause = absurd sent
+  batch-stops (Err failed) item d u w p0 q t z verdict fits is_next says at sent cause = absurd sent
 
   -- the login was refused
-  refused-stops : (u w : TrackerView) (q : Progress) (t : S) (z : Option Traffic) (out : List ℕ) → HearsSome m (nat_lt p.orders 16) v u piece n (hearing.Done heard.Refused) s t out → IsQuiet u w p q y z → Ends m r (Ok end.Refused) taken old w.ring t x z
+  refused-stops : (u w : TrackerView) (q : Progress) (t : S) (z : Option Traffic) (out : List ℕ) → HearsSome m (nat_lt p.orders 16) v u piece n (hearing.Done heard.Refused) s t out → IsQuiet u w p q y z → Ends m r rose (Ok end.Refused) taken old w.ring t x z
   refused-stops u w q t z out hears still =
       let steps = hears.0.steps in
       let f = steps.2 in
@@ -108,7 +108,7 @@ module _ {S : Type 0} (m : ShellMeaning S) (r : Round S) (bytes taken piece back
       (refl, sym g.stands.accepted ∙ f.1, leaves-as g.state v.ring w.ring s t g.stands.leaves ring f.3, refl) (quiet z still.told)
 
   -- a command too many
-  unobeyed-stops : (u w : TrackerView) (q : Progress) (t : S) (z : Option Traffic) (out : List ℕ) → HearsSome m (nat_lt p.orders 16) v u piece n hearing.Unobeyed s t out → IsQuiet u w p q y z → Ends m r (Ok end.TooManyCommands) taken old w.ring t x z
+  unobeyed-stops : (u w : TrackerView) (q : Progress) (t : S) (z : Option Traffic) (out : List ℕ) → HearsSome m (nat_lt p.orders 16) v u piece n hearing.Unobeyed s t out → IsQuiet u w p q y z → Ends m r rose (Ok end.TooManyCommands) taken old w.ring t x z
   unobeyed-stops u w q t z out hears still =
       let f = hears.0 in
       let ring : w.ring ≡ v.ring = ap (λ (j : TrackerView). j.ring) still.view ∙ ap (λ (j : TrackerView). j.ring) f.is in
@@ -118,11 +118,11 @@ module _ {S : Type 0} (m : ShellMeaning S) (r : Round S) (bytes taken piece back
       ((f.body, refl), sym g.stands.accepted ∙ f.answered, omega arith, leaves-as g.state v.ring w.ring s t g.stands.leaves ring hears.1, refl) (quiet z still.told)
 
   -- the answer to a command went out in part
-  answer-stops : (e : Result RoundEnd MediumFault) (u w : TrackerView) (q : Progress) (t : S) (z : Option Traffic) (out : List ℕ) → HearsSome m (nat_lt p.orders 16) v u piece n (hearing.Done heard.Answer) s t out → SendsAnswer (Some e) out p q y z → w ≡ u → Ends m r e taken old w.ring t x z
-  answer-stops (Ok (end.Done k)) u w q t z out hears sent same = absurd sent
-  answer-stops (Ok end.Empty) u w q t z out hears sent same = absurd sent
-  answer-stops (Ok end.Refused) u w q t z out hears sent same = absurd sent
-  answer-stops (Ok end.Broken) u w q t z out hears sent same =
+  answer-stops : (e : Result RoundEnd MediumFault) (u w : TrackerView) (q : Progress) (t : S) (z : Option Traffic) (out : List ℕ) → HearsSome m (nat_lt p.orders 16) v u piece n (hearing.Done heard.Answer) s t out → SendsAnswer (Some e) out p q y z → w ≡ u → (e ≡ Ok end.Broken → rose) → Ends m r rose e taken old w.ring t x z
+  answer-stops (Ok (end.Done k)) u w q t z out hears sent same cause = absurd sent
+  answer-stops (Ok end.Empty) u w q t z out hears sent same cause = absurd sent
+  answer-stops (Ok end.Refused) u w q t z out hears sent same cause = absurd sent
+  answer-stops (Ok end.Broken) u w q t z out hears sent same cause =
       let steps = hears.0.steps in
       let f = steps.2 in
       let body = f.0 in
@@ -135,13 +135,13 @@ module _ {S : Type 0} (m : ShellMeaning S) (r : Round S) (bytes taken piece back
       let part = subst Q said sent.1 in
       let at = orders-on m r d old v w p q s t body g.stands view sent.0 f.4 in
       inr (stops-at (Ok end.Broken) (order body) w.ring t z (take part.0 (writes m r d (order body))) (steps.1 ∙ ap (λ (i : DownValue). whole i (length (v.have ++ take n piece))) f.1)
-      ((sym g.stands.accepted ∙ f.2, omega arith), at.leaves, (part.0, part.1, refl)) part.2)
-  answer-stops (Ok (end.WrongAnswer got)) u w q t z out hears sent same = absurd sent
-  answer-stops (Ok end.TooManyCommands) u w q t z out hears sent same = absurd sent
-  answer-stops (Err failed) u w q t z out hears sent same = absurd sent
+      ((sym g.stands.accepted ∙ f.2, omega arith), at.leaves, (part.0, part.1, refl), cause refl) part.2)
+  answer-stops (Ok (end.WrongAnswer got)) u w q t z out hears sent same cause = absurd sent
+  answer-stops (Ok end.TooManyCommands) u w q t z out hears sent same cause = absurd sent
+  answer-stops (Err failed) u w q t z out hears sent same cause = absurd sent
 
   -- something else was heard
-  wrong-stops : (k : Got) (u w : TrackerView) (q : Progress) (t : S) (z : Option Traffic) (out : List ℕ) → HearsSome m (nat_lt p.orders 16) v u piece n (hearing.Done (heard.Wrong k)) s t out → IsQuiet u w p q y z → Ends m r (Ok (end.WrongAnswer k)) taken old w.ring t x z
+  wrong-stops : (k : Got) (u w : TrackerView) (q : Progress) (t : S) (z : Option Traffic) (out : List ℕ) → HearsSome m (nat_lt p.orders 16) v u piece n (hearing.Done (heard.Wrong k)) s t out → IsQuiet u w p q y z → Ends m r rose (Ok (end.WrongAnswer k)) taken old w.ring t x z
   wrong-stops (got.Login b) u w q t z out hears still =
       let steps = hears.0.steps in
       let f = steps.2 in
@@ -182,7 +182,7 @@ module _ {S : Type 0} (m : ShellMeaning S) (r : Round S) (bytes taken piece back
       }
 
   -- the medium failed
-  medium-stops : (failed : MediumFault) (u w : TrackerView) (q : Progress) (t : S) (z : Option Traffic) (out : List ℕ) → HearsSome m (nat_lt p.orders 16) v u piece n (hearing.Done heard.MediumFault) s t out → IsQuiet u w p q y z → Ends m r (Err failed) taken old w.ring t x z
+  medium-stops : (failed : MediumFault) (u w : TrackerView) (q : Progress) (t : S) (z : Option Traffic) (out : List ℕ) → HearsSome m (nat_lt p.orders 16) v u piece n (hearing.Done heard.MediumFault) s t out → IsQuiet u w p q y z → Ends m r rose (Err failed) taken old w.ring t x z
   medium-stops failed u w q t z out hears still =
       let steps = hears.0.steps in
       let f = steps.2 in
@@ -205,52 +205,52 @@ module _ {S : Type 0} (m : ShellMeaning S) (r : Round S) (bytes taken piece back
       ((accepted, (omega arith), size), ap count size, subst P (sym ring) inside, refl) (quiet z still.told)
 
   -- a turn that ends the round
-  ends-by : (h : Hearing) (e : Result RoundEnd MediumFault) (u w : TrackerView) (q : Progress) (t : S) (z : Option Traffic) (out : List ℕ) → HearsSome m (nat_lt p.orders 16) v u piece n h s t out → Reacts h (Some e) u w out p q y z → Ends m r e taken old w.ring t x z
-  ends-by (hearing.Done heard.More) e u w q t z out hears reacts = absurd reacts
-  ends-by (hearing.Done heard.Accepted) e u w q t z out hears reacts =
+  ends-by : (h : Hearing) (e : Result RoundEnd MediumFault) (u w : TrackerView) (q : Progress) (t : S) (z : Option Traffic) (out : List ℕ) → HearsSome m (nat_lt p.orders 16) v u piece n h s t out → Reacts h (Some e) u w out p q y z → (e ≡ Ok end.Broken → rose) → Ends m r rose e taken old w.ring t x z
+  ends-by (hearing.Done heard.More) e u w q t z out hears reacts cause = absurd reacts
+  ends-by (hearing.Done heard.Accepted) e u w q t z out hears reacts cause =
       let steps = hears.0.steps in
       let f = steps.2 in
-      let P : S → Type 0 = λ k. Ends m r e taken old w.ring k x z in
+      let P : S → Type 0 = λ k. Ends m r rose e taken old w.ring k x z in
       subst P (sym f.3) (batch-stops e (answer 1) (accepts m r g.state) u w p q s z (steps.1 ∙ ap (λ (i : DownValue). whole i (length (v.have ++ take n piece))) f.0) (sym g.stands.accepted ∙ f.1, refl) refl refl
-      (accepts-on m r g.state old v u p s g.stands f.2) reacts)
-  ends-by (hearing.Done heard.Refused) (Ok (end.Done k)) u w q t z out hears reacts = absurd reacts
-  ends-by (hearing.Done heard.Refused) (Ok end.Empty) u w q t z out hears reacts = absurd reacts
-  ends-by (hearing.Done heard.Refused) (Ok end.Refused) u w q t z out hears reacts = refused-stops u w q t z out hears reacts
-  ends-by (hearing.Done heard.Refused) (Ok end.Broken) u w q t z out hears reacts = absurd reacts
-  ends-by (hearing.Done heard.Refused) (Ok (end.WrongAnswer k)) u w q t z out hears reacts = absurd reacts
-  ends-by (hearing.Done heard.Refused) (Ok end.TooManyCommands) u w q t z out hears reacts = absurd reacts
-  ends-by (hearing.Done heard.Refused) (Err failed) u w q t z out hears reacts = absurd reacts
-  ends-by (hearing.Done (heard.Released k)) e u w q t z out hears reacts =
+      (accepts-on m r g.state old v u p s g.stands f.2) reacts cause)
+  ends-by (hearing.Done heard.Refused) (Ok (end.Done k)) u w q t z out hears reacts cause = absurd reacts
+  ends-by (hearing.Done heard.Refused) (Ok end.Empty) u w q t z out hears reacts cause = absurd reacts
+  ends-by (hearing.Done heard.Refused) (Ok end.Refused) u w q t z out hears reacts cause = refused-stops u w q t z out hears reacts
+  ends-by (hearing.Done heard.Refused) (Ok end.Broken) u w q t z out hears reacts cause = absurd reacts
+  ends-by (hearing.Done heard.Refused) (Ok (end.WrongAnswer k)) u w q t z out hears reacts cause = absurd reacts
+  ends-by (hearing.Done heard.Refused) (Ok end.TooManyCommands) u w q t z out hears reacts cause = absurd reacts
+  ends-by (hearing.Done heard.Refused) (Err failed) u w q t z out hears reacts cause = absurd reacts
+  ends-by (hearing.Done (heard.Released k)) e u w q t z out hears reacts cause =
       let steps = hears.0.steps in
       let f = steps.2 in
       let size : length v.batch ≡ length g.state.batch = ap length g.stands.batch in
       let some = f.2 in
-      let P : S → Type 0 = λ j. Ends m r e taken old w.ring j x z in
+      let P : S → Type 0 = λ j. Ends m r rose e taken old w.ring j x z in
       subst P (sym f.6) (batch-stops e (count (length v.batch)) (counts m r g.state) u w (record p { done = p.done + k }) q s z (steps.1 ∙ ap (λ (i : DownValue). whole i (length (v.have ++ take n piece))) f.0)
-      (sym g.stands.accepted ∙ f.1, (omega arith), size) refl refl (counts-on m r g.state old v u p k s g.stands f.3 f.4 f.5) reacts)
-  ends-by (hearing.Done heard.Answer) e u w q t z out hears reacts = answer-stops e u w q t z out hears reacts.0 reacts.1
-  ends-by (hearing.Done (heard.Wrong k)) (Ok (end.Done j)) u w q t z out hears reacts = absurd reacts
-  ends-by (hearing.Done (heard.Wrong k)) (Ok end.Empty) u w q t z out hears reacts = absurd reacts
-  ends-by (hearing.Done (heard.Wrong k)) (Ok end.Refused) u w q t z out hears reacts = absurd reacts
-  ends-by (hearing.Done (heard.Wrong k)) (Ok end.Broken) u w q t z out hears reacts = absurd reacts
-  ends-by (hearing.Done (heard.Wrong k)) (Ok (end.WrongAnswer j)) u w q t z out hears reacts =
-      let P : Got → Type 0 = λ i. Ends m r (Ok (end.WrongAnswer i)) taken old w.ring t x z in subst P (sym reacts.1) (wrong-stops k u w q t z out hears reacts.0)
-  ends-by (hearing.Done (heard.Wrong k)) (Ok end.TooManyCommands) u w q t z out hears reacts = absurd reacts
-  ends-by (hearing.Done (heard.Wrong k)) (Err failed) u w q t z out hears reacts = absurd reacts
-  ends-by (hearing.Done heard.MediumFault) (Ok (end.Done j)) u w q t z out hears reacts = absurd reacts
-  ends-by (hearing.Done heard.MediumFault) (Ok end.Empty) u w q t z out hears reacts = absurd reacts
-  ends-by (hearing.Done heard.MediumFault) (Ok end.Refused) u w q t z out hears reacts = absurd reacts
-  ends-by (hearing.Done heard.MediumFault) (Ok end.Broken) u w q t z out hears reacts = absurd reacts
-  ends-by (hearing.Done heard.MediumFault) (Ok (end.WrongAnswer j)) u w q t z out hears reacts = absurd reacts
-  ends-by (hearing.Done heard.MediumFault) (Ok end.TooManyCommands) u w q t z out hears reacts = absurd reacts
-  ends-by (hearing.Done heard.MediumFault) (Err failed) u w q t z out hears reacts = medium-stops failed u w q t z out hears reacts
-  ends-by hearing.Unobeyed (Ok (end.Done j)) u w q t z out hears reacts = absurd reacts
-  ends-by hearing.Unobeyed (Ok end.Empty) u w q t z out hears reacts = absurd reacts
-  ends-by hearing.Unobeyed (Ok end.Refused) u w q t z out hears reacts = absurd reacts
-  ends-by hearing.Unobeyed (Ok end.Broken) u w q t z out hears reacts = absurd reacts
-  ends-by hearing.Unobeyed (Ok (end.WrongAnswer j)) u w q t z out hears reacts = absurd reacts
-  ends-by hearing.Unobeyed (Ok end.TooManyCommands) u w q t z out hears reacts = unobeyed-stops u w q t z out hears reacts
-  ends-by hearing.Unobeyed (Err failed) u w q t z out hears reacts = absurd reacts
+      (sym g.stands.accepted ∙ f.1, (omega arith), size) refl refl (counts-on m r g.state old v u p k s g.stands f.3 f.4 f.5) reacts cause)
+  ends-by (hearing.Done heard.Answer) e u w q t z out hears reacts cause = answer-stops e u w q t z out hears reacts.0 reacts.1 cause
+  ends-by (hearing.Done (heard.Wrong k)) (Ok (end.Done j)) u w q t z out hears reacts cause = absurd reacts
+  ends-by (hearing.Done (heard.Wrong k)) (Ok end.Empty) u w q t z out hears reacts cause = absurd reacts
+  ends-by (hearing.Done (heard.Wrong k)) (Ok end.Refused) u w q t z out hears reacts cause = absurd reacts
+  ends-by (hearing.Done (heard.Wrong k)) (Ok end.Broken) u w q t z out hears reacts cause = absurd reacts
+  ends-by (hearing.Done (heard.Wrong k)) (Ok (end.WrongAnswer j)) u w q t z out hears reacts cause =
+      let P : Got → Type 0 = λ i. Ends m r rose (Ok (end.WrongAnswer i)) taken old w.ring t x z in subst P (sym reacts.1) (wrong-stops k u w q t z out hears reacts.0)
+  ends-by (hearing.Done (heard.Wrong k)) (Ok end.TooManyCommands) u w q t z out hears reacts cause = absurd reacts
+  ends-by (hearing.Done (heard.Wrong k)) (Err failed) u w q t z out hears reacts cause = absurd reacts
+  ends-by (hearing.Done heard.MediumFault) (Ok (end.Done j)) u w q t z out hears reacts cause = absurd reacts
+  ends-by (hearing.Done heard.MediumFault) (Ok end.Empty) u w q t z out hears reacts cause = absurd reacts
+  ends-by (hearing.Done heard.MediumFault) (Ok end.Refused) u w q t z out hears reacts cause = absurd reacts
+  ends-by (hearing.Done heard.MediumFault) (Ok end.Broken) u w q t z out hears reacts cause = absurd reacts
+  ends-by (hearing.Done heard.MediumFault) (Ok (end.WrongAnswer j)) u w q t z out hears reacts cause = absurd reacts
+  ends-by (hearing.Done heard.MediumFault) (Ok end.TooManyCommands) u w q t z out hears reacts cause = absurd reacts
+  ends-by (hearing.Done heard.MediumFault) (Err failed) u w q t z out hears reacts cause = medium-stops failed u w q t z out hears reacts
+  ends-by hearing.Unobeyed (Ok (end.Done j)) u w q t z out hears reacts cause = absurd reacts
+  ends-by hearing.Unobeyed (Ok end.Empty) u w q t z out hears reacts cause = absurd reacts
+  ends-by hearing.Unobeyed (Ok end.Refused) u w q t z out hears reacts cause = absurd reacts
+  ends-by hearing.Unobeyed (Ok end.Broken) u w q t z out hears reacts cause = absurd reacts
+  ends-by hearing.Unobeyed (Ok (end.WrongAnswer j)) u w q t z out hears reacts cause = absurd reacts
+  ends-by hearing.Unobeyed (Ok end.TooManyCommands) u w q t z out hears reacts cause = unobeyed-stops u w q t z out hears reacts
+  ends-by hearing.Unobeyed (Err failed) u w q t z out hears reacts cause = absurd reacts
 
-  pub ends-with : (e : Result RoundEnd MediumFault) (w : TrackerView) (q : Progress) (t : S) (z : Option Traffic) → Takes m (Some e) v w piece n s t p q y z → Ends m r e taken old w.ring t x z
-  ends-with e w q t z takes = ends-by takes.hearing e takes.heard w q t z takes.out takes.hears takes.reacts
+  pub ends-with : (e : Result RoundEnd MediumFault) (w : TrackerView) (q : Progress) (t : S) (z : Option Traffic) → Takes m (Some e) v w piece n s t p q y z → (e ≡ Ok end.Broken → rose) → Ends m r rose e taken old w.ring t x z
+  ends-with e w q t z takes cause = ends-by takes.hearing e takes.heard w q t z takes.out takes.hears takes.reacts cause

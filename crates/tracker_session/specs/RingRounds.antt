@@ -1,5 +1,5 @@
 -- What a round does to a ring, said of the records that it holds.
-use Rattle.std.specs.Prelude.{◌≡◌, ◌⊎◌, ◌↔◌, ◌≤◌, ℕ, ◌+◌, Bool, true, false, List, [], length, Option, Result, Ok, Err, IsErr}
+use Rattle.std.specs.Prelude.{◌≡◌, ◌⊎◌, ◌↔◌, ◌≤◌, ℕ, ◌+◌, true, false, List, [], length, Option, Result, Ok, Err, IsErr}
 use Rattle.std.specs.List.{Contains}
 use Rattle.avl_values.specs.Record.{Record}
 use Rattle.avl_values.specs.declared.errors.MediumFault.{MediumFault}

@@ -50,16 +50,27 @@ module _ {S : Type 0} (m : ShellMeaning S) (r : Round S) where
     pub counted : Counted (release_calls d + (length d.batch + 1)) old.medium new.medium (Unit {0})
     pub shell : t ≡ d.shell
 
+  -- It ends behind its items, and what was taken behind them is judged so.
+  pub record Rests (verdict : Verdict DownValue) (taken : List ℕ) (old new : RingView) (t : S) (x y : Option Traffic) : Type 0 where
+    pub items : List (Item DownValue)
+    pub rest : List ℕ
+    pub reading : ReadsAs down_rows false taken items rest verdict
+    pub fits : AllFit m r (starts r) (values items)
+    pub leaves : Leaves (after m r (starts r) (values items)) old new t
+    pub wire : Moves taken (text m r (starts r) (values items)) x y
+
+-- `rose` says that the link's count rose in the round: only then is something written in part.
+module _ {S : Type 0} (m : ShellMeaning S) (r : Round S) (rose : Type 0) where
   -- The item at which it ends, by the end: what was heard, what is left, and what was written before and for it.
   abbrev pub StopsAt : Result RoundEnd MediumFault → RoundState S → DownValue → RingView → RingView → S → List ℕ → Type 0
-  StopsAt (Ok end.Refused) d item old new t then_ = (item ≡ answer 0) × (d.accepted ≡ false) × Leaves d old new t × (then_ ≡ [])
-  StopsAt (Ok (end.WrongAnswer g)) d item old new t then_ = IsWrong d.accepted d.batch g item × Leaves d old new t × (then_ ≡ [])
-  StopsAt (Ok end.TooManyCommands) d item old new t then_ = ((body : List ℕ) × (item ≡ order body)) × (d.accepted ≡ true) × (16 ≤ d.orders) × Leaves d old new t × (then_ ≡ [])
-  StopsAt (Ok end.Broken) d item old new t then_ = Fits m r d item × Leaves (next m r d item) old new t × ((n : ℕ) × (n < length (writes m r d item)) × (then_ ≡ take n (writes m r d item)))
-  StopsAt (Ok (end.Done n)) d item old new t then_ = Fits m r d item × Leaves (next m r d item) old new t × ((next m r d item).batch ≡ []) × (n ≡ length (next m r d item).closed)
+  StopsAt (Ok end.Refused) d item old new t then_ = (item ≡ answer 0) × (d.accepted ≡ false) × Leaves m r d old new t × (then_ ≡ [])
+  StopsAt (Ok (end.WrongAnswer g)) d item old new t then_ = IsWrong d.accepted d.batch g item × Leaves m r d old new t × (then_ ≡ [])
+  StopsAt (Ok end.TooManyCommands) d item old new t then_ = ((body : List ℕ) × (item ≡ order body)) × (d.accepted ≡ true) × (16 ≤ d.orders) × Leaves m r d old new t × (then_ ≡ [])
+  StopsAt (Ok end.Broken) d item old new t then_ = Fits m r d item × Leaves m r (next m r d item) old new t × ((n : ℕ) × (n < length (writes m r d item)) × (then_ ≡ take n (writes m r d item))) × rose
+  StopsAt (Ok (end.Done n)) d item old new t then_ = Fits m r d item × Leaves m r (next m r d item) old new t × ((next m r d item).batch ≡ []) × (n ≡ length (next m r d item).closed)
       × (((next m r d item).left ≡ 0) ⊎ (held_of new.slots ≡ [])) × (then_ ≡ [])
   StopsAt (Ok end.Empty) d item old new t then_ = ⊥
-  StopsAt (Err failed) d item old new t then_ = Fits m r d item × (item ≡ count (length d.batch)) × FailsInside d old new t × (then_ ≡ [])
+  StopsAt (Err failed) d item old new t then_ = Fits m r d item × (item ≡ count (length d.batch)) × FailsInside m r d old new t × (then_ ≡ [])
 
   -- It ends at an item: the bytes up to it are read as items from which the round goes on, and then it.
   pub record Stops (end : Result RoundEnd MediumFault) (taken : List ℕ) (old new : RingView) (t : S) (x y : Option Traffic) : Type 0 where
@@ -74,24 +85,15 @@ module _ {S : Type 0} (m : ShellMeaning S) (r : Round S) where
     pub stops : StopsAt end (after m r (starts r) (values items)) last.value old new t then_
     pub wire : Moves taken (text m r (starts r) (values items) ++ then_) x y
 
-  -- It ends behind its items, and what was taken behind them is judged so.
-  pub record Rests (verdict : Verdict DownValue) (taken : List ℕ) (old new : RingView) (t : S) (x y : Option Traffic) : Type 0 where
-    pub items : List (Item DownValue)
-    pub rest : List ℕ
-    pub reading : ReadsAs down_rows false taken items rest verdict
-    pub fits : AllFit m r (starts r) (values items)
-    pub leaves : Leaves (after m r (starts r) (values items)) old new t
-    pub wire : Moves taken (text m r (starts r) (values items)) x y
-
   -- how a round ends, by the bytes taken
   abbrev pub Ends : Result RoundEnd MediumFault → List ℕ → RingView → RingView → S → Option Traffic → Option Traffic → Type 0
-  Ends (Ok end.Broken) taken old new t x y = Rests short taken old new t x y ⊎ Stops (Ok end.Broken) taken old new t x y
-  Ends (Ok (end.WrongAnswer (got.Frame found))) taken old new t x y = Rests (fault found.kind found.place) taken old new t x y
+  Ends (Ok end.Broken) taken old new t x y = Rests m r short taken old new t x y ⊎ Stops (Ok end.Broken) taken old new t x y
+  Ends (Ok (end.WrongAnswer (got.Frame found))) taken old new t x y = Rests m r (fault found.kind found.place) taken old new t x y
   Ends e taken old new t x y = Stops e taken old new t x y
 
   -- One connection: nothing where no slot was open; else the login, or a part of it where the link failed, and then what follows from
   -- the bytes taken.
   pub data IsRound (old new : RingView) (t : S) (x y : Option Traffic) : Result RoundEnd MediumFault → Type 0 where
     empty : held_of old.slots ≡ [] → new ≡ old → t ≡ r.shell → y ≡ x → IsRound old new t x y (Ok end.Empty)
-    cut : new ≡ old → t ≡ r.shell → WritesPart (login_of r.imei) x y → IsRound old new t x y (Ok end.Broken)
+    cut : new ≡ old → t ≡ r.shell → WritesPart (login_of r.imei) x y → rose → IsRound old new t x y (Ok end.Broken)
     talked : (result : Result RoundEnd MediumFault) (taken : List ℕ) (z : Option Traffic) → Moves [] (login_of r.imei) x z → Ends result taken old new t z y → IsRound old new t x y result

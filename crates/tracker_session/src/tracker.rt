@@ -1,4 +1,5 @@
 ghost use Rattle.std.specs.Prelude.{◌≡◌, ◌↔◌, ℕ, List, ◌<◌, ◌≤◌, ◌^◌, [], true, false, length, OnOk, OnErr, IfErr, IfOk, IsOk, IsErrOf, IsSome};
+ghost use Rattle.avl_values.specs.Causes.{Rose};
 ghost use Rattle.avl_values.specs.Record.{Record};
 ghost use Rattle.avl_values.specs.Viewed.{record_of};
 ghost use Rattle.medium_model.specs.CallsLeft.{Fails, after, unlimited};
@@ -323,8 +324,10 @@ impl<M: Medium> Tracker<M> {
         requires up { self.old.ring.down ≡ false }
         requires some { 0 < most }
         ensures silent { self.new ≡ silent (record self.old { ring = self.new.ring }) }
-        ensures round { IsRound (record { says = S.says; obeyed = S.obeyed }) (round_by self.old most shell.old) self.old.ring self.new.ring shell.new (L.state link.old).told (L.state link.new).told result }
+        ensures round { IsRound (record { says = S.says; obeyed = S.obeyed }) (round_by self.old most shell.old) (Rose (L.state link.old).faults (L.state link.new).faults) self.old.ring self.new.ring shell.new (L.state link.old).told (L.state link.new).told result }
         ensures ring { (heard : ℕ) × (released : List Record) × RoundsRing result heard released self.old.ring self.new.ring }
+        ensures empty { result ≡ Ok RoundEnd.Empty ↔ (held_of self.old.ring.slots ≡ []) }
+        ensures nothing { result ≡ Ok RoundEnd.Empty → (link.new ≡ link.old) × (shell.new ≡ shell.old) }
         ensures broken { BreaksWith result (L.state link.old) (L.state link.new) }
         ensures follows { L.follows link.old link.new }
     {

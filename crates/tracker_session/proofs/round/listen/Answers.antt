@@ -1,6 +1,9 @@
 -- What was taken is heard item by item.
-use Rattle.std.proofs.Common.{◌≤◌, ◌+◌, ◌++◌, ◌∙◌, [], List, ℕ, length, take, drop, IfNone, ◌-◌, append-nil, arith, refl, sym, subst}
+use Rattle.std.proofs.Common.{ap, ◌≤◌, ◌+◌, ◌++◌, ◌∙◌, [], List, ℕ, length, take, drop, IfNone, Some, Result, ◌-◌, append-nil, arith, refl, sym, subst}
 use Rattle.std.proofs.lemmas.List.{length-take}
+use Rattle.avl_values.specs.Causes.{Rose}
+use Rattle.avl_values.specs.declared.errors.MediumFault.{MediumFault}
+use Rattle.tracker_session.specs.declared.round_end.RoundEnd.{RoundEnd}
 use Rattle.tracker_session.specs.Responses.{ShellMeaning}
 use Rattle.tracker_session.specs.RoundStates.{round_of}
 use Rattle.tracker_session.specs.Turns.{Takes, Ending, IsReady, Lessens}
@@ -62,7 +65,8 @@ returns-in-Some-clause-ends g c =
     let P : Ending → Type 0 = λ e. Takes m e c.items.tracker c.take_one-n.new.tracker (take (count - at) (drop at buffer)) n c.items.shell c.take_one-n.new.shell c.items.progress c.take_one-n.new.progress y z in (
       inv.0 ++ take count buffer,
       ends-with m r (inv.0 ++ take at buffer) (inv.0 ++ take count buffer) (take (count - at) (drop at buffer)) (drop (at + n) (take count buffer)) n c.args.tracker.now.ring c.items.tracker c.items.progress c.items.shell x y inv.1
-          (all-taken inv.0 buffer at n count within) c.in-Some.end c.take_one-n.new.tracker c.take_one-n.new.progress c.take_one-n.new.shell z (subst P c.in-Some.is c.take_one-n.ensures.takes),
+          (all-taken inv.0 buffer at n count within) (Rose (g.L.Link.state c.args.link.now).faults (g.L.Link.state c.take_one-n.new.link).faults) c.in-Some.end c.take_one-n.new.tracker c.take_one-n.new.progress c.take_one-n.new.shell z (subst P c.in-Some.is c.take_one-n.ensures.takes)
+          (λ broken. let faults = inv.9 in let rose = c.take_one-n.ensures.broken.cause (c.in-Some.is ∙ ap (λ (e : Result RoundEnd MediumFault). Some e) broken) in omega arith),
     )
 
 pub items-preserved : goal.items-preserved
