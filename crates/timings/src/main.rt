@@ -11,6 +11,7 @@ mod frame_work;
 mod line_work;
 mod ring_work;
 mod script_work;
+mod session_work;
 
 use anyhow::Context;
 use std::alloc::Global;
@@ -19,7 +20,7 @@ use std::sync::Wait;
 use std::thread::Threads;
 
 /// A little of everything.
-const SAMPLES: [(&str, [u64; 3]); 12] = [
+const SAMPLES: [(&str, [u64; 3]); 13] = [
     ("codecs", [112, 1, 0]),
     ("fields", [112, 1, 0]),
     ("frames", [2, 1460, 0]),
@@ -32,6 +33,7 @@ const SAMPLES: [(&str, [u64; 3]); 12] = [
     ("overwrite", [4, 0, 0]),
     ("medium", [4, 0, 0]),
     ("scripts", [0, 100_000, 1]),
+    ("sessions", [5, 1460, 1]),
 ];
 
 /// Does what the word says, and gives its two numbers; None for another word, or out of memory.
@@ -50,6 +52,7 @@ fn work<R: Threads + Wait + Sync>(
         "acquisition" => acquisition_work::acquire(first),
         "archive" => archive_work::archive(alloc, first, second, third),
         "desk" => desk_work::admit(rt, alloc, first, second),
+        "sessions" => session_work::serve(alloc, first, second, third > 0),
         "scripts" => script_work::read_scripts(alloc, first, second, third),
         "medium" => ring_work::write_medium(alloc, first),
         _ => ring_work::work(alloc, what, first),
