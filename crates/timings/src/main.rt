@@ -11,6 +11,7 @@ mod frame_work;
 mod line_work;
 mod ring_work;
 mod script_work;
+mod session_work;
 mod tracker_work;
 
 use anyhow::Context;
@@ -19,7 +20,7 @@ use std::sync::Wait;
 use std::thread::Threads;
 
 /// A little of everything.
-const SAMPLES: [(&str, [u64; 3]); 13] = [
+const SAMPLES: [(&str, [u64; 3]); 14] = [
     ("codecs", [112, 1, 0]),
     ("fields", [112, 1, 0]),
     ("frames", [2, 1460, 0]),
@@ -33,6 +34,7 @@ const SAMPLES: [(&str, [u64; 3]); 13] = [
     ("medium", [4, 0, 0]),
     ("scripts", [0, 100_000, 1]),
     ("talks", [100, 0, 0]),
+    ("sessions", [5, 1460, 1]),
 ];
 
 /// Does what the word says, and gives its two numbers; None for another word, or where memory or a file failed.
@@ -53,6 +55,7 @@ fn work<R: Threads + Wait + Sync>(
         "archive" => archive_work::archive(alloc, first, second, third),
         "filed" => archive_work::archive_file(host, first, second, third),
         "desk" => desk_work::admit(rt, alloc, first, second),
+        "sessions" => session_work::serve(alloc, first, second, third > 0),
         "scripts" => script_work::read_scripts(alloc, first, second, third),
         "talks" => tracker_work::send_all(alloc, first),
         "medium" => ring_work::write_medium(alloc, first),
