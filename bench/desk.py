@@ -1,5 +1,5 @@
 #!/usr/bin/env python3
-"""Admits 100,000 packets of one record over a medium in memory by 1, 2, 4 and 64 seats of one desk, each in a thread of its own, and
+"""Admits 20,000 packets of 40 records over a medium in memory by 1, 2, 4 and 64 seats of one desk, each in a thread of its own, and
 shows the calls a second.
 
 Usage: bench/desk.py [PROGRAM]; PROGRAM is the built one, crates/timings/out/timings by default (`rt run` in its folder builds it).
@@ -8,7 +8,7 @@ Wanted: with more seats at most twice the time a call of one seat.
 from measure import best, program, times
 
 PROGRAM = program("timings")
-CALLS = 100_000
+CALLS = 20_000
 
 
 def spent(seats):

@@ -19,7 +19,7 @@ use Rattle.session_core.specs.declared.served.SessionEnd.{SessionEnd}
 use Rattle.session_core.specs.declared.served.SessionEnd.TheVariants as ends
 use Rattle.session_core.specs.Doings.{Doing, Does, IsRefused, Stops}
 use Rattle.session_core.specs.Endings.{start, Ends}
-use Rattle.session_core.specs.Serving.{said_in}
+use Rattle.session_core.specs.Courses.{said_in}
 use Rattle.session_core.specs.SessionCalls.{AreCallsOf, HaveReceipts, bodies_of, IsOneOrNone, MayFollow, records_brought}
 use Rattle.session_core.specs.Talks.{Meaning, Talk, nobody, device, stranger, next, after, packets, stores, records_in, imei_in, is_stranger}
 use Rattle.session_core.proofs.Courses.{LoginFirst, login_first, first_of, bodies_in, bodies_then, bodies_of-then, packets_are, all_bodies, device_imei, none_before}

@@ -21,7 +21,8 @@ use Rattle.session_core.specs.declared.served.SessionEnd.{SessionEnd}
 use Rattle.session_core.specs.declared.served.SessionEnd.TheVariants as ends
 use Rattle.session_core.specs.Complete.{WellFormedEnds}
 use Rattle.session_core.specs.Endings.{IsAtEnd}
-use Rattle.session_core.specs.Serving.{HaltsBy, MayBeUncounted, rest_verdict, said_in}
+use Rattle.session_core.specs.Courses.{HaltsBy, rest_verdict, said_in}
+use Rattle.session_core.specs.Telling.{MayBeUncounted}
 use Rattle.session_core.specs.SessionCalls.{IsOne, IsRefusedBy, MayFollow}
 use Rattle.session_core.proofs.Reading.{up_stream, values_then}
 
@@ -94,7 +95,7 @@ complete {O = O} m known o p told mark s t old new served stream is cause tells 
     by_end : (end : SessionEnd) → served.end ≡ end → HaltsBy m known end is.course.dealt is.course.halt is.taken new o p
         → ((served.end ≡ ends.Ended) × (served.frames ≡ length (packets_of (up_reading false stream).items))) ⊎ (served.end ≡ ends.NoMemory)
     by_end ends.Ended e h =
-        let w = is.words in
+        let w = is.told in
         let none : w.others ≡ [] = subst (λ (x : SessionEnd). MayBeUncounted x w.counted w.others) e w.fits in
         let counted : packets_of (up_reading false is.taken).items ≡ w.counted = w.packets_are ∙ (ap (λ (x : List (List ℕ)). w.counted ++ x) none ∙ append-nil w.counted) in
         inl (e, w.frames ∙ (ap (λ (x : List (List ℕ)). length x) (sym counted) ∙ ap (λ (b : List ℕ). length (packets_of (up_reading false b).items)) (sym (all_taken h.2))))

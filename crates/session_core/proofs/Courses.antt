@@ -7,7 +7,8 @@ use Rattle.frame_layout.specs.Readings.{comes_later_up, packet_in, packets_of, u
 use Rattle.frame_layout.specs.UpRows.{up_rows}
 use Rattle.frame_layout.specs.Values.{UpValue, login, packet, response}
 use Rattle.frame_layout.proofs.PlaceLaws.{up_place}
-use Rattle.session_core.specs.Serving.{login_in, total_records}
+use Rattle.session_core.specs.Courses.{login_in}
+use Rattle.session_core.specs.Telling.{total_records}
 use Rattle.session_core.specs.SessionCalls.{bodies_of}
 use Rattle.session_core.specs.Talks.{Meaning, nobody, device, stranger, after, packets, text, imei_in, is_stranger, records_in}
 use Rattle.session_core.proofs.Reading.{up_stream}

@@ -11,7 +11,8 @@ use Rattle.session_core.specs.declared.served.SessionEnd.{SessionEnd}
 use Rattle.session_core.specs.declared.served.SessionEnd.TheVariants as ends
 use Rattle.session_core.specs.Doings.{Doing}
 use Rattle.session_core.specs.Endings.{start, Ends}
-use Rattle.session_core.specs.Serving.{IsCourse, IsServed, all_dealt, login_in, said_in}
+use Rattle.session_core.specs.Courses.{IsCourse, all_dealt, login_in, said_in}
+use Rattle.session_core.specs.Serving.{IsServed}
 use Rattle.session_core.specs.SessionCalls.{AreCallsOf, HaveReceipts}
 use Rattle.session_core.specs.Sessions.{SessionState, new_session, talk_of}
 use Rattle.session_core.specs.Talks.{Meaning, Talk, imei_in}
@@ -42,7 +43,7 @@ module _ {S O : Type 0} (leaves : S → ℕ → List ℕ → Result Receipt Admi
         written = c.written;
         moves = c.moves;
         course = is;
-        words = told m known o p new i f k end taken c.written is;
+        told = told m known o p new i f k end taken c.written is;
         calls = h.calls;
         receipts = subst (λ (j : Option ℕ). HaveReceipts (served_so m known j f k end) taken h.calls) said h.receipts;
         feeds = h.feeds;
@@ -72,7 +73,7 @@ module _ {S O : Type 0} (leaves : S → ℕ → List ℕ → Result Receipt Admi
         written = [];
         moves = moves_none link.told;
         course = is;
-        words = told m known o o link None 0 0 ends.NoMemory [] [] is;
+        told = told m known o o link None 0 0 ends.NoMemory [] [] is;
         calls = [];
         receipts = have_receipts (mark s) (served_so m known None 0 0 ends.NoMemory) [] [] [] [] [] [] tt refl refl (bodies_in (said_in [])) refl;
         feeds = refl;

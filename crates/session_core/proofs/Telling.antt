@@ -16,7 +16,7 @@ use Rattle.session_core.specs.declared.served.SessionEnd.TheVariants as ends
 use Rattle.session_core.specs.Doings.{Doing, counted_in, Does, IsRefused, Stops}
 use Rattle.session_core.specs.Endings.{start, Ends}
 use Rattle.session_core.specs.Readings.{HadRead, Heads, Reads, ReadsFault}
-use Rattle.session_core.specs.Serving.{said_in, rest_verdict, login_in, Halt, all_dealt, IsAllDealt, IsBeforePacket, HaltsBy, IsCourse}
+use Rattle.session_core.specs.Courses.{said_in, rest_verdict, login_in, Halt, all_dealt, IsAllDealt, IsBeforePacket, HaltsBy, IsCourse}
 use Rattle.session_core.specs.Talks.{Meaning, Talk, nobody, device, reply, next, text, after, packets, stores, records_in, imei_in, orders_in, is_stranger}
 use Rattle.session_core.proofs.Courses.{LoginFirst, login_first, first_of, login_same, imei_is, none_before}
 use Rattle.session_core.proofs.Going.{after_then, records_then, does_then}

@@ -9,7 +9,8 @@ use Rattle.session_core.specs.declared.served.Served.{Served}
 use Rattle.session_core.specs.declared.served.SessionEnd.{SessionEnd}
 use Rattle.session_core.specs.declared.served.SessionEnd.TheVariants as ends
 use Rattle.session_core.specs.Doings.{counted_in}
-use Rattle.session_core.specs.Serving.{said_in, Halt, IsAllDealt, IsBeforePacket, IsInAnswer, IsRefusal, IsUnbegun, IsCourse, IsTold, IsAllWritten, OrdersAre, MayBeUncounted}
+use Rattle.session_core.specs.Courses.{said_in, Halt, IsAllDealt, IsBeforePacket, IsInAnswer, IsRefusal, IsUnbegun, IsCourse}
+use Rattle.session_core.specs.Telling.{IsTold, IsAllWritten, OrdersAre, MayBeUncounted}
 use Rattle.session_core.specs.SessionCalls.{bodies_of}
 use Rattle.session_core.specs.Talks.{Meaning, Talk, nobody, device, stranger, reply, next, text, after, packets, stores, orders_in, is_stranger}
 use Rattle.session_core.proofs.Courses.{LoginFirst, login_first, first_of, bodies_in, bodies_then, bodies_of-then, bodies_size, bodies_total, packets_are, stranger_says, stranger_stays, all_bodies}

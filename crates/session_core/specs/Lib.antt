@@ -1,5 +1,6 @@
 pub mod Archived
 pub mod Complete
+pub mod Courses
 pub mod Doings
 pub mod Endings
 pub mod Givings
@@ -9,4 +10,5 @@ pub mod Serving
 pub mod SessionCalls
 pub mod Sessions
 pub mod Talks
+pub mod Telling
 pub mod Works

@@ -1,14 +1,15 @@
 use crate::bodies::timed_body;
 use avl_values::{Imei, NoMemory};
-use medium::MemoryMedium;
+use medium::{FileMedium, Medium, MemoryMedium};
 use record_codecs::read_packet;
 use shelf::Shelf;
 use std::alloc::Global;
+use std::fs;
 
 const RECORDS: u8 = 40;
 
 /// Admits a body where it is one; whether it was stored.
-fn admit(shelf: &mut Shelf<MemoryMedium>, imei: Imei, bytes: &[u8]) -> bool {
+fn admit<M: Medium>(shelf: &mut Shelf<M>, imei: Imei, bytes: &[u8]) -> bool {
     if bytes.len() > 100_000 {
         return false;
     }
@@ -19,9 +20,9 @@ fn admit(shelf: &mut Shelf<MemoryMedium>, imei: Imei, bytes: &[u8]) -> bool {
 }
 
 /// Admits so many packets, the devices in turn, and counts those that were stored.
-fn fill(
+fn fill<M: Medium>(
     alloc: Global,
-    shelf: &mut Shelf<MemoryMedium>,
+    shelf: &mut Shelf<M>,
     packets: u64,
     devices: u64,
 ) -> Result<u64, NoMemory> {
@@ -40,12 +41,15 @@ fn fill(
     Ok(stored)
 }
 
-/// Fills an archive in memory with so many packets of 40 records of so many devices, and opens it again so often; how many packets
-/// were stored, and how many records are listed at the end.
-pub fn archive(alloc: Global, packets: u64, devices: u64, opens: u64) -> Option<(u64, u64)> {
-    let Ok(medium) = MemoryMedium::new(alloc, &[], &[]) else {
-        return None;
-    };
+/// Fills an archive on a medium with packets of 40 records, the devices in turn, and opens it again; how many packets were stored, and
+/// how many records are listed at the end.
+fn archive_on<M: Medium>(
+    alloc: Global,
+    medium: M,
+    packets: u64,
+    devices: u64,
+    opens: u64,
+) -> Option<(u64, u64)> {
     let Ok(mut shelf) = Shelf::open(alloc, medium) else {
         return None;
     };
@@ -57,4 +61,26 @@ pub fn archive(alloc: Global, packets: u64, devices: u64, opens: u64) -> Option<
         shelf = again;
     }
     Some((stored, shelf.list().len() as u64))
+}
+
+/// The same in memory.
+pub fn archive(alloc: Global, packets: u64, devices: u64, opens: u64) -> Option<(u64, u64)> {
+    let Ok(medium) = MemoryMedium::new(alloc, &[], &[]) else {
+        return None;
+    };
+    archive_on(alloc, medium, packets, devices, opens)
+}
+
+/// The same in the file `timed_archive` of this folder, which is removed afterwards.
+pub fn archive_file(
+    rt: &HostRuntime,
+    packets: u64,
+    devices: u64,
+    opens: u64,
+) -> Option<(u64, u64)> {
+    let path = "timed_archive";
+    let medium = FileMedium::open(rt, path).ok()?;
+    let done = archive_on(rt.alloc(), medium, packets, devices, opens);
+    fs::remove_file(rt, path).ok()?;
+    done
 }

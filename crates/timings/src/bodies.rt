@@ -1,5 +1,6 @@
-//! Bodies of packets of Codec 8.
+//! Bodies of packets of Codec 8, and their frames.
 use avl_values::NoMemory;
+use crc_field::crc;
 use std::alloc::Global;
 
 /// 255 records with so many elements of one byte each, all else zero.
@@ -47,4 +48,15 @@ pub fn timed_body(alloc: Global, first: u64, records: u8) -> Result<Vec<u8>, NoM
     }
     bytes.push(records)?;
     Ok(bytes)
+}
+
+/// Puts the frame of a body last.
+pub fn push_frame(bytes: &mut Vec<u8>, body: &[u8]) -> Result<(), NoMemory> {
+    let length = (body.len() % 65_536) as u16;
+    bytes.extend_from_slice(&[0; 6])?;
+    bytes.extend_from_slice(&length.to_be_bytes())?;
+    bytes.extend_from_slice(body)?;
+    bytes.extend_from_slice(&[0; 2])?;
+    bytes.extend_from_slice(&crc(body).to_be_bytes())?;
+    Ok(())
 }

@@ -11,6 +11,8 @@ use std::sync::Wait;
 use std::thread;
 use std::thread::Threads;
 
+const RECORDS: u8 = 40;
+
 /// A seat at the desk, with the first of its calls, how many there are, and how many were stored.
 #[derive(Drop)]
 struct Session<'a, R: Wait> {
@@ -21,15 +23,15 @@ struct Session<'a, R: Wait> {
 }
 
 impl<'a, R: Wait> Session<'a, R> {
-    /// Admits a packet of one record; whether it was stored.
+    /// Admits a packet; whether it was stored.
     fn admit(&mut self, alloc: Global, number: u64) -> bool {
-        let Ok(body) = timed_body(alloc, number, 1) else {
+        let Ok(body) = timed_body(alloc, number.saturating_mul(u64::from(RECORDS)), RECORDS) else {
             return false;
         };
         let Some(imei) = Imei::from_number(number % 1_000) else {
             return false;
         };
-        if body.len() > 100 {
+        if body.len() > 10_000 {
             return false;
         }
         match read_packet(&body) {
@@ -111,7 +113,7 @@ fn at_desk<R: Threads + Wait + Sync>(
     Some(run_all(rt, alloc, sessions.as_mut_slice()))
 }
 
-/// Admits so many packets of one record, over a medium in memory, by so many seats; how many were stored, and by how many seats.
+/// Admits so many packets of 40 records, over a medium in memory, by so many seats; how many were stored, and by how many seats.
 pub fn admit<R: Threads + Wait + Sync>(
     rt: &R,
     alloc: Global,

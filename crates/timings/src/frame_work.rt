@@ -1,21 +1,14 @@
-use crate::bodies::long_body;
+use crate::bodies::{long_body, push_frame};
 use avl_values::NoMemory;
-use crc_field::crc;
 use frame_channel::{Up, UpItem};
 use std::alloc::Global;
 
 /// So many frames of 255 records with 112 elements, one after the other.
 fn stream(alloc: Global, frames: u64) -> Result<Vec<u8>, NoMemory> {
     let body = long_body(alloc, 112)?;
-    let length = (body.len() % 65_536) as u16;
-    let checksum = crc(&body).to_be_bytes();
     let mut bytes = Vec::new(alloc);
     for _ in 0..frames {
-        bytes.extend_from_slice(&[0; 6])?;
-        bytes.extend_from_slice(&length.to_be_bytes())?;
-        bytes.extend_from_slice(&body)?;
-        bytes.extend_from_slice(&[0; 2])?;
-        bytes.extend_from_slice(&checksum)?;
+        push_frame(&mut bytes, &body)?;
     }
     Ok(bytes)
 }

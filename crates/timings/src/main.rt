@@ -11,16 +11,16 @@ mod frame_work;
 mod line_work;
 mod ring_work;
 mod script_work;
+mod session_work;
 mod tracker_work;
 
 use anyhow::Context;
-use std::alloc::Global;
 use std::env;
 use std::sync::Wait;
 use std::thread::Threads;
 
 /// A little of everything.
-const SAMPLES: [(&str, [u64; 3]); 13] = [
+const SAMPLES: [(&str, [u64; 3]); 14] = [
     ("codecs", [112, 1, 0]),
     ("fields", [112, 1, 0]),
     ("frames", [2, 1460, 0]),
@@ -34,15 +34,17 @@ const SAMPLES: [(&str, [u64; 3]); 13] = [
     ("medium", [4, 0, 0]),
     ("scripts", [0, 100_000, 1]),
     ("talks", [100, 2, 1]),
+    ("sessions", [5, 1460, 1]),
 ];
 
-/// Does what the word says, and gives its two numbers; None for another word, or out of memory.
+/// Does what the word says, and gives its two numbers; None for another word, or where memory or a file failed.
 fn work<R: Threads + Wait + Sync>(
     rt: &R,
-    alloc: Global,
+    host: &HostRuntime,
     what: &str,
     numbers: [u64; 3],
 ) -> Option<(u64, u64)> {
+    let alloc = host.alloc();
     let [first, second, third] = numbers;
     match what {
         "codecs" => codec_work::judge_packets(alloc, first, second, false),
@@ -51,7 +53,9 @@ fn work<R: Threads + Wait + Sync>(
         "lines" => line_work::write_lines(alloc, first, second),
         "acquisition" => acquisition_work::acquire(first),
         "archive" => archive_work::archive(alloc, first, second, third),
+        "filed" => archive_work::archive_file(host, first, second, third),
         "desk" => desk_work::admit(rt, alloc, first, second),
+        "sessions" => session_work::serve(alloc, first, second, third > 0),
         "scripts" => script_work::read_scripts(alloc, first, second, third),
         "talks" => tracker_work::talk(alloc, first, second, third > 0),
         "medium" => ring_work::write_medium(alloc, first),
@@ -73,14 +77,12 @@ fn main(rt: HostRuntime) -> anyhow::Result<()> {
     }
     match what {
         Some(what) => {
-            let (first, second) = work(&rt, rt.alloc(), what.as_str(), numbers).context(
-                "all of it",
-            )?;
+            let (first, second) = work(&rt, &rt, what.as_str(), numbers).context("all of it")?;
             println!(rt; "{first} {second}")?;
         }
         None => {
             for (what, numbers) in SAMPLES {
-                let (first, second) = work(&rt, rt.alloc(), what, numbers).context("all of it")?;
+                let (first, second) = work(&rt, &rt, what, numbers).context("all of it")?;
                 println!(rt; "{what} {first} {second}")?;
             }
         }

@@ -115,7 +115,9 @@ fn sixteen_commands_are_obeyed(rt: HostRuntime) -> Result<(), Fail> {
 // The frame of a body.
 fn frame(alloc: Global, body: &[u8]) -> Option<Vec<u8>> {
     let mut frame = Vec::from_slice(alloc, &[0; 4]).ok()?;
-    frame.extend_from_slice(&body.len().to_be_bytes()[4..]).ok()?;
+    frame
+        .extend_from_slice(&body.len().to_be_bytes()[4..])
+        .ok()?;
     frame.extend_from_slice(body).ok()?;
     frame.extend_from_slice(&[0; 2]).ok()?;
     frame.extend_from_slice(&crc(body).to_be_bytes()).ok()?;

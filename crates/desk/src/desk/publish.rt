@@ -1,4 +1,4 @@
-//! Publish: the call stands in the history, the shelf is at home, and the turn is passed on.
+//! Publish: the call stands in the history, the shelf is at home, and the turn is passed on. Seats that sleep look again.
 ghost use Rattle.std.specs.Prelude.{◌≡◌, [], ◌∷◌, ◌++◌, Some};
 ghost use Rattle.shelf.specs.Calls.{brought_by, no_mark};
 ghost use Rattle.shelf.specs.Entries.{entry, IsLegalLog, StandsAfter};
@@ -8,7 +8,7 @@ ghost use Rattle.desk.specs.Steps.{Published};
 ghost use Rattle.desk.specs.Views.{IsAlone, first_number};
 ghost use Rattle.desk.specs.Views.Stage.{Holding};
 
-use super::{Desk, SERVING, Token};
+use super::{Desk, SERVING, TICKET, Token};
 use crate::view::View;
 use atomic_table::Play;
 use avl_values::Imei;
@@ -60,6 +60,10 @@ impl<M: Medium> Desk<M> {
         let _ = imei;
         let _ = body;
         let _ = answer;
-        self.table.shared.fetch_add::<Publish<E>>(token, SERVING, 1);
+        let shared = &self.table.shared;
+        let served = shared.fetch_add::<Publish<E>>(token, SERVING, 1);
+        if shared.peek(TICKET) != served.wrapping_add(1) {
+            shared.wake_all(SERVING);
+        }
     }
 }

@@ -12,7 +12,7 @@ ghost use Rattle.desk.specs.Steps.{HasTurn};
 ghost use Rattle.desk.specs.Views.{IsAlone, first_view};
 ghost use Rattle.desk.specs.Views.Stage.{Idle};
 
-use super::{Desk, Seat, Token};
+use super::{Desk, SERVING, Seat, Token};
 use crate::view::Opening;
 use atomic_table::{Refused, Table};
 use avl_values::{Imei, NoMemory};
@@ -23,6 +23,9 @@ use std::marker::Brand;
 use std::snapshot::Snapshot;
 use std::sync::Wait;
 use std::thread;
+
+/// How often a seat looks before it sleeps until the turn is passed on.
+const LOOKS: u32 = 50;
 
 impl<M: Medium> Desk<M> {
     /// A desk with as many seats as asked, numbered from 0. Without memory the shelf comes back.
@@ -110,7 +113,7 @@ impl<M: Medium> Desk<M> {
         result
     }
 
-    // Draws a ticket, and looks again until it is its turn.
+    // Draws a ticket, and looks again until it is its turn: a while at once, and then whenever the turn was passed on.
     fn wait_turn<R: Wait>(&self, rt: &R, token: &mut Token<M>)
         requires table { token.old.table_id ≡ self.now.table.shared.table_id }
         requires idle { IsAlone Idle token.old.me.0 }
@@ -119,11 +122,21 @@ impl<M: Medium> Desk<M> {
         ensures turn { HasTurn token.old.me token.new.me }
     {
         let ticket = self.draw(token);
+        let mut looks: u32 = 0;
         for _ in rt.forever() {
-            if self.look(token) == ticket {
+            let serving = self.look(token);
+            if serving == ticket {
                 return;
             }
-            thread::yield_now();
+            if looks < LOOKS {
+                looks += 1;
+                thread::yield_now();
+            } else {
+                // The low 32 bits are what sleeping goes by.
+                self.table
+                    .shared
+                    .park(rt, SERVING, (serving % 2u64.pow(32)) as u32);
+            }
         }
         unreachable!()
     }
