@@ -33,7 +33,7 @@ const SAMPLES: [(&str, [u64; 3]); 14] = [
     ("overwrite", [4, 0, 0]),
     ("medium", [4, 0, 0]),
     ("scripts", [0, 100_000, 1]),
-    ("talks", [100, 0, 0]),
+    ("talks", [100, 2, 1]),
     ("sessions", [5, 1460, 1]),
 ];
 
@@ -57,7 +57,7 @@ fn work<R: Threads + Wait + Sync>(
         "desk" => desk_work::admit(rt, alloc, first, second),
         "sessions" => session_work::serve(alloc, first, second, third > 0),
         "scripts" => script_work::read_scripts(alloc, first, second, third),
-        "talks" => tracker_work::send_all(alloc, first),
+        "talks" => tracker_work::talk(alloc, first, second, third > 0),
         "medium" => ring_work::write_medium(alloc, first),
         _ => ring_work::work(alloc, what, first),
     }

@@ -87,19 +87,30 @@ fn round(alloc: Global, tracker: &mut Tracker<MemoryBench>) -> Option<u64> {
     }
 }
 
-/// Keeps so many records, up to 4,096, and sends them in rounds of one batch each: how many rounds that took, and how many records
-/// were counted.
-pub fn send_all(alloc: Global, records: u64) -> Option<(u64, u64)> {
-    let mut tracker = tracker(alloc)?;
-    keep_all(&mut tracker, records)?;
+/// Sends so many records in rounds of one batch each: how many rounds that took.
+fn send_all(alloc: Global, tracker: &mut Tracker<MemoryBench>, records: u64) -> Option<u64> {
     let mut rounds: u64 = 0;
     let mut sent: u64 = 0;
     for _ in 0..records {
         if sent >= records {
             break;
         }
-        sent = sent.saturating_add(round(alloc, &mut tracker)?);
+        sent = sent.saturating_add(round(alloc, tracker)?);
         rounds = rounds.saturating_add(1);
     }
-    Some((rounds, sent))
+    Some(rounds)
+}
+
+/// Keeps so many records, up to 4,096, in a new ring, and sends them where that is asked for, so many times: how many rounds that
+/// took each time.
+pub fn talk(alloc: Global, records: u64, times: u64, sends: bool) -> Option<(u64, u64)> {
+    let mut rounds = 0;
+    for _ in 0..times {
+        let mut tracker = tracker(alloc)?;
+        keep_all(&mut tracker, records)?;
+        if sends {
+            rounds = send_all(alloc, &mut tracker, records)?;
+        }
+    }
+    Some((records, rounds))
 }
