@@ -78,8 +78,8 @@ impl<M: Medium> Journal<M> {
         }
     }
 
-    /// Makes it ready for an append of a body of so many bytes. NoMemory and Failed leave the entries as they are; Failed comes
-    /// only where the count of faults rose.
+    /// Makes it ready for an append of a body of so many bytes. NoMemory leaves everything as it was, but for the room in its
+    /// buffer; Failed leaves the entries as they are, and comes only where the count of faults rose.
     pub fn room(&mut self, bytes: u32) -> Result<(), ReserveError>
         ensures room { OnOk result (HasRoom self.new bytes) }
         ensures same { self.new ≡ record self.old { medium = self.new.medium; reserved = self.new.reserved; buffer = self.new.buffer } }
@@ -89,6 +89,7 @@ impl<M: Medium> Journal<M> {
         ensures cause { IsErrOf result ReserveError.Failed → Rose self.old.medium.faults self.new.medium.faults }
         ensures later { self.old.medium.faults ≤ self.new.medium.faults }
         ensures ready { self.old.medium.ready ≤ self.new.medium.ready }
+        ensures unreserved { IsErrOf result ReserveError.NoMemory → self.new ≡ record self.old { buffer = self.new.buffer } }
     {
         let place = self.tail.gate + bytes as u64 + 2;
         if place > MAX_PLACE {

@@ -104,6 +104,7 @@ impl Medium for FileMedium {
         ensures most { self.new.ready ≤ 2 ^ 62 }
         ensures content { (file_state self.new).content ≡ (file_state self.old).content }
         ensures left { (file_state self.new).left ≡ (file_state self.old).left }
+        ensures unreserved { IsErrOf result ReserveError.NoMemory → file_state self.new ≡ file_state self.old }
 
         ensures broken { self.old.broken ≡ true → IsErrOf result ReserveError.Failed }
         ensures stays_broken { self.new.broken ≡ self.old.broken }

@@ -87,6 +87,7 @@ impl MemoryBench {
         ensures ready { self.old.ready ≤ self.new.ready }
         ensures most { self.new.ready ≤ 2 ^ 62 }
         ensures rest { self.new ≡ record self.old { ready = self.new.ready } }
+        ensures err { OnErr result (self.new ≡ self.old) }
     {
         // The proof takes from it that it is ready up to 2^62 at most.
         let _ready = self.content.ready();
@@ -115,6 +116,7 @@ impl Medium for MemoryBench {
         ensures most { self.new.ready ≤ 2 ^ 62 }
         ensures content { (bench_state self.new).content ≡ (bench_state self.old).content }
         ensures left { (bench_state self.new).left ≡ (bench_state self.old).left }
+        ensures unreserved { IsErrOf result ReserveError.NoMemory → bench_state self.new ≡ bench_state self.old }
 
         ensures rest { self.new ≡ record self.old { ready = self.new.ready; faults = self.new.faults } }
         ensures lost { self.old.power ≡ Power.Lost → IsErrOf result ReserveError.Failed }

@@ -90,6 +90,7 @@ impl Medium for MemoryMedium {
         ensures most { self.new.ready ≤ 2 ^ 62 }
         ensures content { (memory_state self.new).content ≡ (memory_state self.old).content }
         ensures left { (memory_state self.new).left ≡ (memory_state self.old).left }
+        ensures unreserved { IsErrOf result ReserveError.NoMemory → memory_state self.new ≡ memory_state self.old }
 
         ensures exactly { IsErrOf result ReserveError.Failed ↔ (2 ^ 62 < to) }
         ensures not_counted { self.new ≡ record self.old { ready = self.new.ready; faults = self.new.faults } }

@@ -15,7 +15,7 @@ pub const MAX_PLACE: u64 = 1 << 62;
 pub enum ReserveError {
     /// The place is above 2^62, or the device failed. The count of faults rose.
     Failed,
-    /// A growth of memory was refused.
+    /// A growth of memory was refused. Nothing has changed.
     NoMemory,
 }
 
@@ -46,7 +46,8 @@ pub trait Medium: Drop {
         ensures ready { (state self.old).ready ≤ (state self.new).ready }
         ensures most { (state self.new).ready ≤ 2 ^ 62 }
         ensures content { (state self.new).content ≡ (state self.old).content }
-        ensures left { (state self.new).left ≡ (state self.old).left };
+        ensures left { (state self.new).left ≡ (state self.old).left }
+        ensures unreserved { IsErrOf result ReserveError.NoMemory → state self.new ≡ state self.old };
 
     /// How many bytes a read gives from place 0 on.
     fn len(&mut self) -> Result<u64, Failed>

@@ -15,7 +15,7 @@ use Rattle.archive_journal.specs.Entries.{entries_of}
 use Rattle.archive_journal.specs.Journal.{JournalView, EachHolds, HoldsWith, IsEither, IsTold, entries_told, with_entry}
 use Rattle.archive_journal.specs.Journal as journal
 use Rattle.shelf.specs.Archive.{StoredValue, stored, has, add, admitted, fresh, listed, list_of, ArePlaces}
-use Rattle.shelf.specs.Shelf.{ShelfView, Lists, IsDurable, HasList, IsShelf, new_entry, calls_for, recs_of, Leaves}
+use Rattle.shelf.specs.Shelf.{ShelfView, Lists, IsDurable, HasList, IsShelf, calls_for, recs_of, Leaves}
 use Rattle.shelf.specs.declared.receipt.Receipt.{Receipt}
 use Rattle.shelf.specs.declared.receipt.AdmitFault.TheVariants.{Down, NoMemory, MediumFault}
 
@@ -94,9 +94,6 @@ lists-more (Some c) (Some d) list e is more = record {
   is = ap list_of (some-entries (entries_of d.reads) (entries_of c.reads ++ e ∷ []) more) ∙ listed-more [] (entries_of c.reads) e ∙ ap (λ (l : List StoredValue). admitted l e.imei e.records) is.is;
 }
 
-pub lists-same : (o n : Option Content) (list : List StoredValue) → n ≡ o → IfTold o (HasList list) → IfTold n (HasList list)
-lists-same o n list same is = let P : Option Content → Type 0 = λ c. IfTold c (HasList list) in subst P (sym same) is
-
 pub images-unchanged : (j : JournalView) (more : Option (List EntryValue)) → journal.IsDurable j → EachHolds j.medium (IsEither (entries_told j.medium.content) more)
 images-unchanged j more durable = every-map j.medium.content _ _ (λ image held. record { sound = held.sound; holds = record { is = unchanged held.holds.is } }) durable.same
 
@@ -117,17 +114,16 @@ durable-shelf j list down opened is up =
     }
 
 -- nothing was kept, and the list is as it was
-pub shelf-cut : (j k : JournalView) (list cut : List StoredValue) (down : Bool) (opened : ℕ) → IsShelf j list down opened → down ≡ false
-    → cut ≡ list → journal.IsDurable k → k.medium.content ≡ j.medium.content → j.medium.faults ≤ k.medium.faults → IsShelf k cut down opened
-shelf-cut j k list cut down opened is up same durable content faults =
-    let P : List StoredValue → Type 0 = λ l. IfTold k.medium.content (HasList l) in
-    let opened_low = is.later in
-    record {
-      up = λ _. durable;
-      lists = λ _. subst P (sym same) (lists-same j.medium.content k.medium.content list content (is.lists up));
-      later = omega arith;
-      fell = λ fallen. absurd (let never : false ≡ true = sym up ∙ fallen in cc);
-    }
+pub shelf-cut : (j k : JournalView) (list cut : List StoredValue) (down : Bool) (opened : ℕ) → IsShelf j list down opened
+    → cut ≡ list → k ≡ record j { buffer = k.buffer } → IsShelf k cut down opened
+shelf-cut j k list cut down opened is same left =
+    let P : JournalView × List StoredValue → Type 0 = λ x. IsShelf x.0 x.1 down opened in
+    subst P (λ i. (sym left i, sym same i)) (record {
+      up = λ up. let durable = is.up up in record { up = durable.up; same = durable.same; settled = durable.settled };
+      lists = is.lists;
+      later = is.later;
+      fell = is.fell;
+    })
 
 -- a medium fault took it down
 pub shelf-fell : (j k : JournalView) (list cut : List StoredValue) (down : Bool) (opened : ℕ) → IsShelf j list down opened → j.medium.faults ≤ k.medium.faults → Rose j.medium.faults k.medium.faults
@@ -172,29 +168,24 @@ module _ (j : JournalView) (list : List StoredValue) (down : Bool) (opened imei 
     durable = λ up. absurd (let never : false ≡ true = sym up ∙ fallen in cc);
     fell = is.fell;
     images = λ up. absurd (let never : false ≡ true = sym up ∙ fallen in cc);
-    untouched = λ _. refl;
     unwritten = λ _. refl;
     counted = counted-none j.medium;
   }
 
   module _ (up : down ≡ false) (k : JournalView) where
-    never_down : {P : Type 0} → down ≡ true → P
-    never_down fallen = absurd (let never : false ≡ true = sym up ∙ fallen in cc)
-
-    pub leaves-none : (cut : List StoredValue) → cut ≡ list → IsShelf k cut down opened → k.medium.content ≡ j.medium.content → Counted 0 j.medium k.medium ⊥
-        → Leaves (view j.medium list down opened) imei body (Err NoMemory) (view k.medium cut down opened)
-    leaves-none cut same after content counted =
-        let P : Option Content → Type 0 = λ o. EveryImage o (HoldsWith (IsEither (entries_told j.medium.content) (with_entry (new_entry list imei (records_of body)) (entries_told j.medium.content)))) in
-        record {
-          admits = record { list = same; down = refl; fits = up; counts = counted.later };
+    pub leaves-none : (cut : List StoredValue) → cut ≡ list → k ≡ record j { buffer = k.buffer } → Leaves (view j.medium list down opened) imei body (Err NoMemory) (view k.medium cut down opened)
+    leaves-none cut same left =
+        let P : MediumState × List StoredValue → Type 0 = λ x. Leaves (view j.medium list down opened) imei body (Err NoMemory) (view x.0 x.1 down opened) in
+        let medium : k.medium ≡ j.medium = ap (λ (v : JournalView). v.medium) left in
+        subst P (λ i. (sym medium i, sym same i)) (record {
+          admits = record { list = refl; down = refl; fits = up; counts = refl };
           opened = refl;
-          durable = durable-shelf k cut down opened after;
-          fell = after.fell;
-          images = λ _. subst P (sym content) (images-unchanged j _ (is.up up));
-          untouched = never_down;
-          unwritten = λ _. content;
-          counted = counted;
-        }
+          durable = durable-shelf j list down opened is;
+          fell = is.fell;
+          images = λ _. images-unchanged j _ (is.up up);
+          unwritten = λ _. refl;
+          counted = counted-none j.medium;
+        })
 
     pub leaves-nothing : (staged : List StoredValue) (receipt : Receipt) → staged ≡ admitted list imei (records_of body) → ArePlaces staged imei (records_of body) receipt.places.items
         → IsShelf j staged down opened → fresh list imei (records_of body) ≡ [] → Leaves (view j.medium list down opened) imei body (Ok receipt) (view j.medium staged down opened)
@@ -207,8 +198,7 @@ module _ (j : JournalView) (list : List StoredValue) (down : Bool) (opened imei 
           durable = durable-shelf j staged down opened after;
           fell = after.fell;
           images = λ _. images-unchanged j _ (is.up up);
-          untouched = never_down;
-          unwritten = λ _. refl;
+          unwritten = λ _. ap (λ (l : List StoredValue). view j.medium l down opened) (staged_is ∙ admitted-fresh list imei (records_of body) ∙ ap (λ (l : List Record). list ++ map (stored imei) l) none ∙ append-nil list);
           counted = subst Q (sym none) (counted-none j.medium);
         }
 
@@ -226,7 +216,6 @@ module _ (j : JournalView) (list : List StoredValue) (down : Bool) (opened imei 
           durable = durable-shelf k staged down opened after;
           fell = after.fell;
           images = λ _. subst R new_is images;
-          untouched = never_down;
           unwritten = λ (none : fresh list imei (records_of body) ≡ []). absurd (let never : 0 ≡ 4 = sym (ap calls_for none) ∙ four in cc);
           counted = subst Q (sym four) counted;
         }
@@ -243,7 +232,6 @@ module _ (j : JournalView) (list : List StoredValue) (down : Bool) (opened imei 
           durable = λ risen. absurd (let never : false ≡ true = sym risen in cc);
           fell = after.fell;
           images = λ _. subst R new_is images;
-          untouched = never_down;
           unwritten = λ never. absurd never;
           counted = subst Q (sym four) counted;
         }

@@ -45,7 +45,7 @@ Fits list down imei records (Err (MediumFault faults)) = down ≡ false
 abbrev pub Counts : ℕ → Answer → ℕ → Type 0
 Counts before (Ok places) now = before ≤ now
 Counts before (Err (Down faults)) now = (faults ≡ before) × (now ≡ before)
-Counts before (Err NoMemory) now = before ≤ now
+Counts before (Err NoMemory) now = now ≡ before
 Counts before (Err (MediumFault faults)) now = (faults ≡ now) × (before ≤ now) × Rose before now
 
 pub record Admits (old : Shelved) (imei : ℕ) (records : List Record) (answer : Answer) (new : Shelved) : Type 0 where

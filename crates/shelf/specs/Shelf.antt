@@ -109,7 +109,7 @@ WritesNothing new (Err (Down faults)) = Unit {0}
 WritesNothing new (Err NoMemory) = Unit {0}
 WritesNothing new (Err (MediumFault faults)) = ⊥
 
--- What a call of a shelf's `admit` leaves. At every exit, and so at each moment of the call, a power loss leaves the entries
+-- What a call of a shelf's `admit` leaves. One that writes nothing changes nothing. At every exit, and so at each moment of the call, a power loss leaves the entries
 -- before, or those with one entry of the new records behind them.
 pub record Leaves (old : ShelfView) (imei : ℕ) (body : List ℕ) (result : Result Receipt AdmitFault) (new : ShelfView) : Type 0 where
   pub admits : Admits (front old) imei (records_of body) (answer_of result) (front new)
@@ -117,6 +117,5 @@ pub record Leaves (old : ShelfView) (imei : ℕ) (body : List ℕ) (result : Res
   pub durable : new.down ≡ false → IsDurable new
   pub fell : new.down ≡ true → IsAbove new.medium.faults new.opened
   pub images : old.down ≡ false → EachHolds new.medium (journal.IsEither (entries_told old.medium.content) (with_entry (new_entry old.list imei (records_of body)) (entries_told old.medium.content)))
-  pub untouched : old.down ≡ true → new.medium ≡ old.medium
-  pub unwritten : WritesNothing (fresh old.list imei (records_of body)) (answer_of result) → new.medium.content ≡ old.medium.content
+  pub unwritten : WritesNothing (fresh old.list imei (records_of body)) (answer_of result) → new ≡ old
   pub counted : Counted (admit_calls (fresh old.list imei (records_of body)) (answer_of result)) old.medium new.medium (IsMediumFault (answer_of result))

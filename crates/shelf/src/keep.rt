@@ -14,7 +14,7 @@ use std::alloc::Global;
 /// Why nothing was kept.
 #[derive(Clone, Copy, Debug, PartialEq, Eq)]
 pub enum KeepFault {
-    /// A growth of memory was refused, and nothing was written.
+    /// A growth of memory was refused. Nothing has changed, but for the room in the journal's buffer.
     NoMemory,
     /// The medium failed in this call.
     MediumFault,
@@ -54,8 +54,7 @@ pub fn keep<M: Medium>(
     ensures images { EachHolds journal.new.medium (IsEither (entries_told journal.old.medium.content) (with_entry (record { imei = imei; records = recs_of new.now }) (entries_told journal.old.medium.content))) }
     ensures entries { OnOk result (entries_told journal.new.medium.content ≡ with_entry (record { imei = imei; records = recs_of new.now }) (entries_told journal.old.medium.content)) }
     ensures durable { OnOk result (IsDurable journal.new) }
-    ensures no_memory { IsErrOf result KeepFault.NoMemory → IsDurable journal.new }
-    ensures content { IsErrOf result KeepFault.NoMemory → journal.new.medium.content ≡ journal.old.medium.content }
+    ensures unreserved { IsErrOf result KeepFault.NoMemory → journal.new ≡ record journal.old { buffer = journal.new.buffer } }
     ensures counted { Counted (keep_calls result) journal.old.medium journal.new.medium (IsErrOf result KeepFault.MediumFault) }
 {
     let codec = new[0].rec().codec();

@@ -23,7 +23,7 @@ pub enum AdmitFault {
         /// How often the medium has failed, above that at opening.
         faults: u64,
     },
-    /// A growth of memory was refused. The record list and the medium's images are as before.
+    /// A growth of memory was refused. Nothing has changed.
     NoMemory,
     /// The medium failed in this call. The record list is as before, and the shelf is down.
     MediumFault {

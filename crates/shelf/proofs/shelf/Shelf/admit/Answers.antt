@@ -1,5 +1,5 @@
 -- Each exit leaves what was staged and kept.
-use Rattle.std.proofs.Common.{◌≡◌, ◌∙◌, true, Result, Ok, Err, length, sym, ap, subst, refl, arith, rules}
+use Rattle.std.proofs.Common.{◌≡◌, ◌∙◌, true, Result, Ok, Err, length, sym, ap, subst, refl, rules}
 use Rattle.medium_model.proofs.Images.{counted-as}
 use Rattle.record_layout.specs.RecordsOf.{records_of}
 use Rattle.archive_journal.proofs.Packets.{accepted-whole}
@@ -7,7 +7,6 @@ use Rattle.shelf.specs.Kept.{keep_calls}
 use Rattle.shelf.specs.Shelf.{ShelfView, MakesEntry, Leaves, recs_of}
 use Rattle.shelf.specs.declared.receipt.AdmitFault.TheVariants.{NoMemory, MediumFault}
 use Rattle.shelf.specs.declared.keep.KeepFault.{KeepFault}
-use Rattle.shelf.specs.declared.keep.KeepFault.TheVariants as kept
 use Rattle.shelf.proofs.Leaving.{behind, no_more, new-some, cut-is, nothing-staged, shelf-cut, shelf-fell, shelf-kept, shelf-same, leaves-none, leaves-nothing, leaves-kept, leaves-fault}
 use Rattle.shelf.proofs.Making.{makes-entry, calls-four}
 use Rattle.shelf.proofs.shelf.Shelf.admit.Goals as goal
@@ -51,20 +50,16 @@ returns-in-Ok-clause-leaves g c =
 -- out of memory
 pub invariant_of-self-in-Err-NoMemory : goal.invariant_of-self-in-Err-NoMemory
 invariant_of-self-in-Err-NoMemory g c =
-    let h = c.in-Err-NoMemory.ensures in
     let f = ap (λ (x : KeepFault). let r : Result (Unit {0}) KeepFault = Err x in r) c.in-Err-NoMemory.field-0-is in
-    shelf-cut _ _ _ _ _ _ c.self.invariant c.if-self.false (cut-is _ _ _ c.len-known.result c.args.imei (records_of c.args.body.now) c.len-known.ensures c.in_ok-receipt.ensures.added c.truncate.ensures) (h.no_memory f) (h.content f) h.counted.later
+    shelf-cut _ _ _ _ _ _ c.self.invariant (cut-is _ _ _ c.len-known.result c.args.imei (records_of c.args.body.now) c.len-known.ensures c.in_ok-receipt.ensures.added c.truncate.ensures) (c.in-Err-NoMemory.ensures.unreserved f)
 
 pub returns-in-Err-NoMemory-clause-leaves : goal.returns-in-Err-NoMemory-clause-leaves
 returns-in-Err-NoMemory-clause-leaves g c =
-    let h = c.in-Err-NoMemory.ensures in
     let f = ap (λ (x : KeepFault). let r : Result (Unit {0}) KeepFault = Err x in r) c.in-Err-NoMemory.field-0-is in
     let same = cut-is c.self.inside.listing c.stage.new.self c.truncate.new.self c.len-known.result c.args.imei (records_of c.args.body.now) c.len-known.ensures c.in_ok-receipt.ensures.added c.truncate.ensures in
-    let after = shelf-cut c.self.inside.journal c.keep.new.journal _ _ _ _ c.self.invariant c.if-self.false same (h.no_memory f) (h.content f) h.counted.later in
     let P : ShelfView → Type 0 = λ v. Leaves v c.args.imei c.args.body.now (Err NoMemory)
     (record { medium = c.keep.new.journal.medium; list = c.truncate.new.self; down = c.self.inside.down; opened = c.self.inside.opened }) in
-    subst P c.self.view_is (leaves-none _ _ _ _ c.args.imei c.args.body.now c.self.invariant c.if-self.false _ _ same after (h.content f)
-    (counted-as (ap (λ (x : KeepFault). keep_calls (Err x)) c.in-Err-NoMemory.field-0-is) (λ e. absurd e) (λ e. absurd (let never : (let r : Result (Unit {0}) KeepFault = Err kept.NoMemory in r) ≡ Err kept.MediumFault = sym f ∙ e in cc)) h.counted))
+    subst P c.self.view_is (leaves-none c.self.inside.journal _ _ _ c.args.imei c.args.body.now c.self.invariant c.if-self.false c.keep.new.journal _ same (c.in-Err-NoMemory.ensures.unreserved f))
 
 -- the medium failed
 pub returns-in-Err-MediumFault-clause-leaves : goal.returns-in-Err-MediumFault-clause-leaves
