@@ -1,6 +1,7 @@
 -- A host in memory, as contracts see it (this project's own).
 use Rattle.std.specs.Prelude.{ℕ, ◌≡◌, List, [], All, Option, Some, None, map}
 use Rattle.trial_model.specs.Results.{Results}
+use Rattle.fault_plan.specs.Plan.{Plan, planned}
 use Rattle.text_streams.specs.Memory.{MemorySourceView, MemorySinkView, source_state, sink_state}
 use Rattle.fmb_host.specs.declared.host.Counts.{Counts}
 use Rattle.fmb_host.specs.Host.{HostView, Returns}
@@ -10,8 +11,7 @@ abbrev pub AreFresh : List MemorySourceView → Type 0
 AreFresh sources = All (λ source. source.faults ≡ 0) sources
 
 -- its counts, the outcome that it kept last, its sink, the texts that it will hand out, those that came back as long as each was
--- one that it had handed out, how many are handed out and not back, the numbers of the opens that fail, and how many opens were
--- made
+-- one that it had handed out, how many are handed out and not back, and which opens fail
 pub record MemoryHostView : Type 0 where
   pub counts : Counts
   pub kept : Option Results
@@ -19,8 +19,7 @@ pub record MemoryHostView : Type 0 where
   pub texts : List MemorySourceView
   pub texts_back : Option (List MemorySourceView)
   pub lent : ℕ
-  pub failing : List ℕ
-  pub calls : ℕ
+  pub plan : Plan
 
 -- a host that was not used yet
 abbrev pub new_host : MemorySinkView → List ℕ → MemoryHostView
@@ -31,8 +30,7 @@ new_host sink failing = record {
   texts = [];
   texts_back = Some [];
   lent = 0;
-  failing = failing;
-  calls = 0;
+  plan = planned failing;
 }
 
 -- what it tells of the texts that came back

@@ -1,12 +1,13 @@
-ghost use Rattle.std.specs.Prelude.{◌≡◌, ◌↔◌, ◌⊎◌, ◌+◌, ◌<◌, ◌-◌, ◌^◌, ℕ, Some, None, Option, List, [], ◌∷◌, ◌++◌, refl, OnOk, OnErr, IfOk, IfSome, IsErr, IsSome, Contains, option_map};
+ghost use Rattle.std.specs.Prelude.{◌≡◌, ◌↔◌, ◌⊎◌, ◌+◌, ◌<◌, ◌-◌, ◌^◌, ℕ, Some, None, Option, List, [], ◌∷◌, ◌++◌, refl, OnOk, OnErr, IfOk, IfSome, IsErr, IsSome, option_map};
 ghost use Rattle.std.specs.Borrow.{Lends, sem};
-ghost use Rattle.avl_values.specs.Causes.{more_by_one};
+ghost use Rattle.fault_plan.specs.Plan.{FailsNext, after_call};
 ghost use Rattle.fmb_host.specs.Host.{HandsOut, HostView, TakesBack, with_host_fault};
 ghost use Rattle.fmb_host.specs.Memory.{host_view, new_host};
 ghost use Rattle.text_streams.specs.Memory.{source_state};
 
 use crate::host::{Counts, Host};
 use avl_values::{Failed, NoMemory};
+use fault_plan::FaultPlan;
 use std::alloc::Global;
 use std::collections::VecDeque;
 use std::marker::Model;
@@ -24,8 +25,7 @@ pub struct MemoryHost {
     texts_back: Vec<MemorySource>,
     keeps_texts: bool,
     lent: usize,
-    failing: Vec<u64>,
-    calls: u64,
+    plan: FaultPlan,
 }
 
 impl Model for MemoryHost {
@@ -43,8 +43,7 @@ impl Model for MemoryHost {
       texts = h.texts.items;
       texts_back = if h.keeps_texts then Some h.texts_back.items else None;
       lent = h.lent;
-      failing = h.failing.items;
-      calls = h.calls;
+      plan = h.plan;
     } };
 
     ghost invariant = { λ h. AreFresh h.texts.items × (vec_len h.texts_back + h.lent + deque_len h.texts ≤ vec_capacity h.texts_back) };
@@ -69,8 +68,7 @@ impl MemoryHost {
             texts_back: Vec::new(alloc),
             keeps_texts: true,
             lent: 0,
-            failing: Vec::from_slice(alloc, failing)?,
-            calls: 0,
+            plan: FaultPlan::new(alloc, failing)?,
         })
     }
 
@@ -123,14 +121,11 @@ impl Host for MemoryHost {
         ensures failed { OnErr result (host_view self.new ≡ with_host_fault (host_view self.old)) }
 
         // it fails exactly at the chosen calls and where no text is left
-        ensures fails { IsErr result ↔ (Contains self.old.failing self.old.calls ⊎ (self.old.texts ≡ [])) }
-        ensures counted { self.new.calls ≡ more_by_one self.old.calls }
-        ensures failing { self.new.failing ≡ self.old.failing }
+        ensures fails { IsErr result ↔ (FailsNext self.old.plan ⊎ (self.old.texts ≡ [])) }
+        ensures counted { self.new.plan ≡ after_call self.old.plan }
         ensures lent { OnOk result (self.new.lent ≡ self.old.lent + 1) }
     {
-        let call = self.calls;
-        self.calls = call.saturating_add(1);
-        if !self.failing.contains(&call) {
+        if !self.plan.next_fails() {
             if let Some(text) = self.texts.pop_front() {
                 self.lent += 1;
                 return Ok(text);

@@ -4,6 +4,7 @@ use Rattle.std.proofs.lemmas.List.{take-append-le, length-take-le, drop-drop}
 use Rattle.std.proofs.Math.Seq.{take-add, take-length}
 use Rattle.links.specs.Links.{Traffic, with_more}
 use Rattle.avl_values.specs.Causes.{HasCause, more_by_one}
+use Rattle.fault_plan.specs.Plan.{after_call}
 use Rattle.links.specs.Going.{same_traffic, goes_on_failed}
 use Rattle.links.specs.Memory.{MemoryLinkState, GoesOn, after_failure, after_read}
 
@@ -18,7 +19,7 @@ advanced : (incoming : List ℕ) (at n : ℕ) (link : MemoryLinkState) → at_pl
 advanced incoming at n link =
     ap (λ (z : List ℕ × List ℕ). let s : MemoryLinkState = record link { taken = z.0; left = z.1 } in s) (λ i. (take-add at n incoming i, sym (drop-drop n at incoming) i))
 
-pub read_state : (incoming : List ℕ) (at n : ℕ) (inside before : MemoryLinkState) → at_place incoming at inside ≡ record before { calls = more_by_one before.calls }
+pub read_state : (incoming : List ℕ) (at n : ℕ) (inside before : MemoryLinkState) → at_place incoming at inside ≡ record before { plan = after_call before.plan }
     → at_place incoming (at + n) inside ≡ after_read n before
 read_state incoming at n inside before is = advanced incoming at n inside ∙ ap (λ (s : MemoryLinkState). moved n s) is
 
@@ -37,18 +38,18 @@ read_took n after before copied is same =
 
 -- What it is after a call that failed.
 
-fail_state : (before chosen after : MemoryLinkState) → chosen ≡ record before { calls = more_by_one before.calls } → after ≡ record chosen { faults = more_by_one chosen.faults } → after ≡ after_failure before
+fail_state : (before chosen after : MemoryLinkState) → chosen ≡ record before { plan = after_call before.plan } → after ≡ record chosen { faults = more_by_one chosen.faults } → after ≡ after_failure before
 fail_state before chosen after p q = q ∙ ap (λ (s : MemoryLinkState). let t : MemoryLinkState = record s { faults = more_by_one s.faults } in t) p
 
-same_faults : (before chosen : MemoryLinkState) → chosen ≡ record before { calls = more_by_one before.calls } → chosen.faults ≡ before.faults
+same_faults : (before chosen : MemoryLinkState) → chosen ≡ record before { plan = after_call before.plan } → chosen.faults ≡ before.faults
 same_faults before chosen p = ap (λ (s : MemoryLinkState). s.faults) p
 
-pub fail_follows : (before chosen after : MemoryLinkState) → chosen ≡ record before { calls = more_by_one before.calls } → before.calls ≤ more_by_one before.calls
+pub fail_follows : (before chosen after : MemoryLinkState) → chosen ≡ record before { plan = after_call before.plan } → before.plan.calls ≤ more_by_one before.plan.calls
     → after ≡ record chosen { faults = more_by_one chosen.faults } → chosen.faults ≤ more_by_one chosen.faults → GoesOn before after
 fail_follows before chosen after p more_calls q more_faults =
     subst (λ (s : MemoryLinkState). GoesOn before s) (sym (fail_state before chosen after p q)) (goes_on_failed before more_calls (subst (λ (n : ℕ). n ≤ more_by_one n) (same_faults before chosen p) more_faults))
 
-pub fail_cause : {T E : Type 0} (e : E) (before chosen after : MemoryLinkState) → chosen ≡ record before { calls = more_by_one before.calls } → after ≡ record chosen { faults = more_by_one chosen.faults }
+pub fail_cause : {T E : Type 0} (e : E) (before chosen after : MemoryLinkState) → chosen ≡ record before { plan = after_call before.plan } → after ≡ record chosen { faults = more_by_one chosen.faults }
     → chosen.faults ≤ more_by_one chosen.faults → HasCause {T = T} {E = E} before.faults after.faults (Err e)
 fail_cause e before chosen after p q more_faults =
     let same = same_faults before chosen p in

@@ -44,7 +44,7 @@ goes_on_later a b g = record {
   faults = g.faults;
 }
 
-pub goes_on_failed : (link : MemoryLinkState) → link.calls ≤ more_by_one link.calls → link.faults ≤ more_by_one link.faults → GoesOn link (after_failure link)
+pub goes_on_failed : (link : MemoryLinkState) → link.plan.calls ≤ more_by_one link.plan.calls → link.faults ≤ more_by_one link.faults → GoesOn link (after_failure link)
 goes_on_failed link more_calls more_faults = record {
   taken = [];
   written = [];
@@ -58,7 +58,7 @@ goes_on_failed link more_calls more_faults = record {
   faults = more_faults;
 }
 
-pub goes_on_read : (n : ℕ) (link : MemoryLinkState) → link.calls ≤ more_by_one link.calls → GoesOn link (after_read n link)
+pub goes_on_read : (n : ℕ) (link : MemoryLinkState) → link.plan.calls ≤ more_by_one link.plan.calls → GoesOn link (after_read n link)
 goes_on_read n link more_calls = record {
   taken = take n link.left;
   written = [];
@@ -72,7 +72,7 @@ goes_on_read n link more_calls = record {
   faults = omega arith;
 }
 
-pub goes_on_written : (bytes : List ℕ) (link : MemoryLinkState) → link.calls ≤ more_by_one link.calls → GoesOn link (after_write bytes link)
+pub goes_on_written : (bytes : List ℕ) (link : MemoryLinkState) → link.plan.calls ≤ more_by_one link.plan.calls → GoesOn link (after_write bytes link)
 goes_on_written bytes link more_calls = record {
   taken = [];
   written = bytes;

@@ -1,11 +1,13 @@
 ghost use Rattle.std.specs.Prelude.{◌≡◌, ◌↔◌, ◌⊎◌, ℕ, ◌+◌, ◌<◌, ◌≤◌, true, [], ◌++◌, min, length, take, drop, IfOk, OnErr, IsErr, IsTrue};
 ghost use Rattle.avl_values.specs.Causes.{HasCause, more_by_one};
+ghost use Rattle.fault_plan.specs.Plan.{after_call};
 ghost use Rattle.links.specs.Going.{goes_on_later, goes_on_none, goes_on_then};
 ghost use Rattle.links.specs.Links.{Moves, IsEmptyAtEnd};
 ghost use Rattle.links.specs.Memory.{GoesOn, IsChosen, PassesRoom, after_failure, after_read, after_write, given, link_state, unused};
 
 use crate::link::Link;
 use avl_values::{Failed, NoMemory};
+use fault_plan::FaultPlan;
 use std::alloc::Global;
 use std::marker::Model;
 
@@ -18,8 +20,7 @@ pub struct MemoryLink {
     written: Vec<u8>,
     piece: usize,
     room: usize,
-    failing: Vec<u64>,
-    calls: u64,
+    plan: FaultPlan,
     faults: u64,
 }
 
@@ -36,8 +37,7 @@ impl Model for MemoryLink {
       written = l.written.items;
       piece = l.piece;
       room = l.room;
-      failing = l.failing.items;
-      calls = l.calls;
+      plan = l.plan;
       faults = l.faults;
     } };
 
@@ -75,8 +75,7 @@ impl MemoryLink {
             written: Vec::with_capacity(alloc, room)?,
             piece,
             room,
-            failing: Vec::from_slice(alloc, failing)?,
-            calls: 0,
+            plan: FaultPlan::new(alloc, failing)?,
             faults: 0,
         })
     }
@@ -91,12 +90,10 @@ impl MemoryLink {
     /// Counts a call, and says whether it was chosen to fail.
     fn is_chosen(&mut self) -> bool
         ensures chosen { IsTrue result ↔ IsChosen self.old }
-        ensures counted { self.new ≡ record self.old { calls = more_by_one self.old.calls } }
-        ensures later { self.old.calls ≤ more_by_one self.old.calls }
+        ensures counted { self.new ≡ record self.old { plan = after_call self.old.plan } }
+        ensures later { self.old.plan.calls ≤ more_by_one self.old.plan.calls }
     {
-        let call = self.calls;
-        self.calls = call.saturating_add(1);
-        self.failing.contains(&call)
+        self.plan.next_fails()
     }
 
     /// Counts a fault.

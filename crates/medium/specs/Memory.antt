@@ -1,6 +1,6 @@
 -- What contracts see of the media in memory, and what a power loss leaves of a bench (this project's own).
-use Rattle.std.specs.Prelude.{◌≡◌, ◌↔◌, ℕ, ◌/◌, ◌≤◌, ◌==◌, if◌then◌else◌, List, [], ◌∷◌, length, replicate, take, Some, Contains}
-use Rattle.avl_values.specs.Causes.{more_by_one}
+use Rattle.std.specs.Prelude.{◌≡◌, ◌↔◌, ℕ, ◌/◌, ◌≤◌, ◌==◌, if◌then◌else◌, List, [], ◌∷◌, length, replicate, take, Some}
+use Rattle.fault_plan.specs.Plan.{Plan, FailsNext, after_call}
 use Rattle.medium_model.specs.CallsLeft.{CallsLeft, unknown, unlimited, after, exhausted}
 use Rattle.medium.specs.Buffer.{ReadyContent, IsTornImage}
 use Rattle.medium_model.specs.Content.{Content, written}
@@ -10,19 +10,17 @@ use Rattle.medium_model.specs.declared.bench.Tear.TheVariants.{Keep, New, Zero, 
 use Rattle.medium.specs.declared.power.Power.{Power}
 use Rattle.medium.specs.declared.power.Power.TheVariants.{Unarmed, Armed, Lost}
 
--- a medium that fails at the calls of these numbers, counted from 0
+-- a medium, and which of its calls fail
 pub record MemoryView : Type 0 where
   pub content : Content
   pub ready : ℕ
-  pub failing : List ℕ
-  pub calls : ℕ
+  pub plan : Plan
   pub faults : ℕ
 
--- What a counted call does to the count: it fails exactly where its number stands in the list.
+-- A counted call fails exactly where the plan says so.
 pub record IsNumbered (old new : MemoryView) (failed : Type 0) : Type 0 where
-  pub exactly : failed ↔ Contains old.failing old.calls
-  pub next : new.calls ≡ more_by_one old.calls
-  pub plan : new.failing ≡ old.failing
+  pub exactly : failed ↔ FailsNext old.plan
+  pub next : new.plan ≡ after_call old.plan
 
 -- With no number to fail at, no call will fail.
 abbrev pub calls_left : List ℕ → CallsLeft
@@ -30,7 +28,7 @@ calls_left [] = unlimited
 calls_left (n ∷ ns) = unknown
 
 abbrev pub memory_state : MemoryView → MediumState
-memory_state m = record { content = Some m.content; left = calls_left m.failing; ready = m.ready; faults = m.faults }
+memory_state m = record { content = Some m.content; left = calls_left m.plan.failing; ready = m.ready; faults = m.faults }
 
 -- what one write leaves, by the tear
 abbrev pub torn_write : Tear → ℕ → List ℕ → List ℕ → List ℕ

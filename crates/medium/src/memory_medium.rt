@@ -1,5 +1,6 @@
 ghost use Rattle.std.specs.Prelude.{◌≡◌, ◌⊎◌, ◌↔◌, ◌+◌, ◌-◌, ◌<◌, ◌≤◌, ◌^◌, min, length, take, drop, IfOk, OnOk, OnErr, IsErr, IsErrOf, IsSome, IsTrue};
 ghost use Rattle.avl_values.specs.Causes.{Rose};
+ghost use Rattle.fault_plan.specs.Plan.{planned};
 ghost use Rattle.medium_model.specs.CallsLeft.{MayFail};
 ghost use Rattle.medium_model.specs.Content.{after_write, after_sync, settled};
 ghost use Rattle.medium_model.specs.PowerLoss.{IsImage};
@@ -8,6 +9,7 @@ ghost use Rattle.medium_model.specs.State.{Counted, IfTold, TornWrite, told};
 
 use crate::memory_content::MemoryContent;
 use avl_values::{Failed, NoMemory};
+use fault_plan::FaultPlan;
 use medium_model::{MAX_PLACE, Medium, ReserveError};
 use std::alloc::Global;
 use std::marker::Model;
@@ -17,8 +19,7 @@ use std::marker::Model;
 #[derive(Drop)]
 pub struct MemoryMedium {
     content: MemoryContent,
-    failing: Vec<u64>,
-    calls: u64,
+    plan: FaultPlan,
     faults: u64,
 }
 
@@ -27,23 +28,22 @@ impl Model for MemoryMedium {
 
     ghost Value = { MemoryView };
 
-    ghost view = { λ m. record { content = m.content.content; ready = m.content.ready; failing = m.failing.items; calls = m.calls; faults = m.faults } };
+    ghost view = { λ m. record { content = m.content.content; ready = m.content.ready; plan = m.plan; faults = m.faults } };
 }
 
 impl MemoryMedium {
     /// A medium of these bytes, all of them durable, that fails at the calls of these numbers.
     pub fn new(alloc: Global, content: &[u8], failing: &[u64]) -> Result<MemoryMedium, NoMemory>
-        ensures { IfOk result (λ m. m ≡ record { content = settled content.now; ready = length content.now; failing = failing.now; calls = 0; faults = 0 }) }
+        ensures { IfOk result (λ m. m ≡ record { content = settled content.now; ready = length content.now; plan = planned failing.now; faults = 0 }) }
     {
         if content.len() as u64 > MAX_PLACE {
             return Err(NoMemory);
         }
         let content = MemoryContent::from_slice(alloc, content)?;
-        let failing = Vec::from_slice(alloc, failing)?;
+        let plan = FaultPlan::new(alloc, failing)?;
         Ok(MemoryMedium {
             content,
-            failing,
-            calls: 0,
+            plan,
             faults: 0,
         })
     }
@@ -58,12 +58,10 @@ impl MemoryMedium {
     // Counts a call, and fails where its number was chosen.
     fn pass(&mut self) -> Result<(), Failed>
         ensures numbered { IsNumbered self.old self.new (IsErr result) }
-        ensures rest { self.new ≡ record self.old { calls = self.new.calls; faults = self.new.faults } }
+        ensures rest { self.new ≡ record self.old { plan = self.new.plan; faults = self.new.faults } }
         ensures counted { Counted 1 (memory_state self.old) (memory_state self.new) (IsErr result) }
     {
-        let fails = self.failing.contains(&self.calls);
-        self.calls = self.calls.saturating_add(1);
-        if fails {
+        if self.plan.next_fails() {
             self.faults = self.faults.saturating_add(1);
             return Err(Failed);
         }

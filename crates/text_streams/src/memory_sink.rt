@@ -1,11 +1,13 @@
 ghost use Rattle.std.specs.Prelude.{◌≡◌, ◌↔◌, ℕ, ◌<◌, ◌≤◌, ◌-◌, List, min, Some, IfOk, IsErr, length};
 ghost use Rattle.std.specs.Io.{WritesAtMost};
 ghost use Rattle.std.specs.Io.KnownBytes.{WriteAppends};
-ghost use Rattle.avl_values.specs.Causes.{HasCause, more_by_one};
+ghost use Rattle.avl_values.specs.Causes.{HasCause};
+ghost use Rattle.fault_plan.specs.Plan.{after_call};
 ghost use Rattle.text_streams.specs.Memory.{IsRefused, sink_state, unwritten};
 
 use crate::sink::Sink;
 use avl_values::{Failed, NoMemory};
+use fault_plan::FaultPlan;
 use std::alloc::Global;
 use std::marker::Model;
 
@@ -14,8 +16,7 @@ use std::marker::Model;
 pub struct MemorySink {
     bytes: Vec<u8>,
     room: usize,
-    failing: Vec<u64>,
-    calls: u64,
+    plan: FaultPlan,
     faults: u64,
 }
 
@@ -26,7 +27,7 @@ impl Model for MemorySink {
 
     ghost Value = { MemorySinkView };
 
-    ghost view = { λ s. record { written = s.bytes.items; room = s.room; failing = s.failing.items; calls = s.calls; faults = s.faults } };
+    ghost view = { λ s. record { written = s.bytes.items; room = s.room; plan = s.plan; faults = s.faults } };
 
     ghost invariant = { λ s. (vec_len s.bytes ≤ s.room) × (s.room ≤ vec_capacity s.bytes) };
 }
@@ -40,8 +41,7 @@ impl MemorySink {
         Ok(MemorySink {
             bytes: Vec::with_capacity(alloc, room)?,
             room,
-            failing: Vec::from_slice(alloc, failing)?,
-            calls: 0,
+            plan: FaultPlan::new(alloc, failing)?,
             faults: 0,
         })
     }
@@ -70,13 +70,10 @@ impl Sink for MemorySink {
         // it fails exactly at the chosen calls and where no room is left, and else takes all that fits
         ensures fails { IsErr result ↔ IsRefused self.old }
         ensures takes { IfOk result (λ n. n ≡ min (length from.now) (self.old.room - length self.old.written)) }
-        ensures counted { self.new.calls ≡ more_by_one self.old.calls }
-        ensures failing { self.new.failing ≡ self.old.failing }
+        ensures counted { self.new.plan ≡ after_call self.old.plan }
         ensures room { self.new.room ≡ self.old.room }
     {
-        let call = self.calls;
-        self.calls = call.saturating_add(1);
-        if self.failing.contains(&call) || self.bytes.len() == self.room {
+        if self.plan.next_fails() || self.bytes.len() == self.room {
             self.faults = self.faults.saturating_add(1);
             return Err(Failed);
         }

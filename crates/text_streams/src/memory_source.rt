@@ -1,11 +1,13 @@
-ghost use Rattle.std.specs.Prelude.{◌≡◌, ◌↔◌, ℕ, ◌<◌, ◌≤◌, List, min, Some, IfOk, IsErr, Contains, length, take, drop};
+ghost use Rattle.std.specs.Prelude.{◌≡◌, ◌↔◌, ℕ, ◌<◌, ◌≤◌, List, min, Some, IfOk, IsErr, length, take, drop};
 ghost use Rattle.std.specs.Io.{ReadsAtMost};
 ghost use Rattle.std.specs.Io.KnownBytes.{ReadConsumes};
-ghost use Rattle.avl_values.specs.Causes.{HasCause, more_by_one};
+ghost use Rattle.avl_values.specs.Causes.{HasCause};
+ghost use Rattle.fault_plan.specs.Plan.{FailsNext, after_call};
 ghost use Rattle.text_streams.specs.Memory.{source_state, unread};
 
 use crate::source::Source;
 use avl_values::{Failed, NoMemory};
+use fault_plan::FaultPlan;
 use std::alloc::Global;
 use std::marker::Model;
 
@@ -14,8 +16,7 @@ use std::marker::Model;
 pub struct MemorySource {
     bytes: Vec<u8>,
     at: usize,
-    failing: Vec<u64>,
-    calls: u64,
+    plan: FaultPlan,
     faults: u64,
 }
 
@@ -25,7 +26,7 @@ impl Model for MemorySource {
 
     ghost Value = { MemorySourceView };
 
-    ghost view = { λ s. record { left = drop s.at s.bytes.items; failing = s.failing.items; calls = s.calls; faults = s.faults } };
+    ghost view = { λ s. record { left = drop s.at s.bytes.items; plan = s.plan; faults = s.faults } };
 
     ghost invariant = { λ s. s.at ≤ vec_len s.bytes };
 }
@@ -49,8 +50,7 @@ impl MemorySource {
         Ok(MemorySource {
             bytes: Vec::from_slice(alloc, bytes)?,
             at: 0,
-            failing: Vec::from_slice(alloc, failing)?,
-            calls: 0,
+            plan: FaultPlan::new(alloc, failing)?,
             faults: 0,
         })
     }
@@ -69,14 +69,11 @@ impl Source for MemorySource {
         ensures cause { HasCause self.old.faults self.new.faults result }
 
         // it fails exactly at the chosen calls, and else gives all that fits
-        ensures fails { IsErr result ↔ Contains self.old.failing self.old.calls }
+        ensures fails { IsErr result ↔ FailsNext self.old.plan }
         ensures gives { IfOk result (λ n. n ≡ min (length into.old) (length self.old.left)) }
-        ensures counted { self.new.calls ≡ more_by_one self.old.calls }
-        ensures failing { self.new.failing ≡ self.old.failing }
+        ensures counted { self.new.plan ≡ after_call self.old.plan }
     {
-        let call = self.calls;
-        self.calls = call.saturating_add(1);
-        if self.failing.contains(&call) {
+        if self.plan.next_fails() {
             self.faults = self.faults.saturating_add(1);
             return Err(Failed);
         }

@@ -1,0 +1,6 @@
+//! Which calls of a thing in memory fail on purpose.
+#![tactic(auto)]
+
+mod plan;
+
+pub use plan::FaultPlan;
