@@ -136,6 +136,29 @@ fn is_hex(alloc: Global, bytes: &[u8], text: &str) -> bool {
     }
 }
 
+// What a file is after it was opened as an archive.
+fn file_after(alloc: Global, bytes: &[u8]) -> Option<MemoryMedium> {
+    match opened(alloc, bytes, &[])? {
+        Ok(shelf) => Some(shelf.into_medium()),
+        Err(_) => None,
+    }
+}
+
+/// An archive without entries, whole: its mark, and a closed gate.
+const EMPTY: &str = "464d42415243483100";
+
+// A file of at most nine bytes that is no archive is made anew, and an open gate after the mark is closed.
+#[test]
+fn the_file_of_no_records(rt: HostRuntime) -> Result<(), Fail> {
+    let alloc = rt.alloc();
+    let files: [&[u8]; 5] = [b"", b"F", b"FMBARCH1", b"012345678", b"FMBARCH1\xA5"];
+    for file in files {
+        let medium = file_after(alloc, file).ok_or("an archive")?;
+        assert!(rt; is_hex(alloc, medium.content(), EMPTY));
+    }
+    Ok(())
+}
+
 #[test]
 fn the_file_of_one_record(rt: HostRuntime) -> Result<(), Fail> {
     let alloc = rt.alloc();
