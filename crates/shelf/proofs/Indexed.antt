@@ -11,9 +11,10 @@ use Rattle.std.proofs.lemmas.Bool.{cases_lt, false≢true}
 use Rattle.std.proofs.lemmas.Map.Lookups.{exact_unsigned, exact_pairs}
 use Rattle.std.proofs.lemmas.Option.{slice_get_within, none-some}
 use Rattle.avl_values.specs.Record.{Record}
-use Rattle.shelf.specs.Archive.{StoredValue, stored, has}
+use Rattle.shelf.specs.Archive.{StoredValue, stored, is_same_stored, has}
 use Rattle.shelf.specs.Index.{Key, key_cmp, place_in, number_at, digest_for, IsFiled, IsIndexed, IsFree}
-use Rattle.shelf.proofs.Lists.{get-front, get-cases, not-listed}
+use Rattle.record_lists.proofs.EachOnce.{get-front, get-cases, not-listed}
+use Rattle.shelf.proofs.Lists.{stored-tell}
 
 equal-is : (o : Ordering) → is_eq o ≡ true → o ≡ Equal
 equal-is Less is = absurd (let never : false ≡ true = is in cc)
@@ -103,7 +104,7 @@ passed-free list find imei r step number passed is none = record {
 
 pub passed-new : (list : List StoredValue) (find : Key → Option ℕ) (imei : ℕ) (r : Record) (step number : ℕ) → IsIndexed list find → ArePassed list find imei r step → number ≡ number_at (digest_for r) step → find (imei, number) ≡ None
     → has list imei r ≡ false
-passed-new list find imei r step number indexed passed is none0 = not-listed list imei r (λ p at. absurd (never p at (indexed.each p (stored imei r) at)))
+passed-new list find imei r step number indexed passed is none0 = not-listed is_same_stored stored-tell list (stored imei r) (λ p at. absurd (never p at (indexed.each p (stored imei r) at)))
   where
     none : find (imei, number_at (digest_for r) step) ≡ None
     none = ap (λ (n : ℕ). find (imei, n)) (sym is) ∙ none0

@@ -12,25 +12,20 @@ use Rattle.record_layout.specs.RecordsOf.{records_of}
 use Rattle.archive_journal.specs.Body.{EntryValue}
 use Rattle.archive_journal.specs.Entries.{entries_of}
 use Rattle.archive_journal.specs.Journal.{HoldsWith, EachHolds, IsEither, IsTold, entries_told, with_entry}
-use Rattle.shelf.specs.Archive.{StoredValue, stored, has, add, admitted, fresh, listed, list_of, all_of, archived, recs_for, HoldEachOnce, IsOnce}
+use Rattle.shelf.specs.Archive.{StoredValue, stored, has, add, admitted, fresh, listed, list_of, all_of, archived, recs_for, HoldEachOnce, is_same_stored}
 use Rattle.shelf.specs.Shelf.{ShelfView, IsDurable, HasList, ListsEither, new_entry, Leaves}
 use Rattle.shelf.specs.declared.receipt.Receipt.{Receipt}
 use Rattle.shelf.specs.declared.receipt.AdmitFault.{AdmitFault}
-use Rattle.shelf.proofs.Lists.{once-none, once-more}
+use Rattle.record_lists.specs.EachOnce.{IsOnce}
+use Rattle.record_lists.proofs.EachOnce.{once-none, once-add}
+use Rattle.shelf.proofs.Lists.{stored-tell}
 use Rattle.shelf.proofs.Leaving.{admitted-fresh, fresh-again, listed-more}
 
 -- A record list has each record of a device once.
 
-once-add : (list : List StoredValue) (imei : ℕ) (r : Record) → IsOnce list → IsOnce (add list imei r)
-once-add list imei r once = split (has list imei r) refl
-  where
-    split : (b : Bool) → has list imei r ≡ b → IsOnce (add list imei r)
-    split true known = let P : Bool → Type 0 = λ b. IsOnce (if b then list else list ++ stored imei r ∷ []) in subst P (sym known) once
-    split false new = let P : Bool → Type 0 = λ b. IsOnce (if b then list else list ++ stored imei r ∷ []) in subst P (sym new) (once-more list imei r new once)
-
 pub once-admitted : (list : List StoredValue) (imei : ℕ) (rs : List Record) → IsOnce list → IsOnce (admitted list imei rs)
 once-admitted list imei [] once = once
-once-admitted list imei (r ∷ rs) once = once-admitted (add list imei r) imei rs (once-add list imei r once)
+once-admitted list imei (r ∷ rs) once = once-admitted (add list imei r) imei rs (once-add is_same_stored stored-tell list (stored imei r) once)
 
 once-listed : (list : List StoredValue) (es : List EntryValue) → IsOnce list → IsOnce (listed list es)
 once-listed list [] once = once

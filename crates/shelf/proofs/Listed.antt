@@ -3,12 +3,13 @@ use Rattle.std.proofs.Common.{◌≡◌, ℕ, false, List, [], ◌∷◌, ◌++�
 use Rattle.std.specs.BTreeMap.{BTreeMap, Updates, is_at}
 use Rattle.std.specs.Map.{lookup}
 use Rattle.avl_values.specs.Record.{Record}
-use Rattle.shelf.specs.Archive.{StoredValue, stored, has}
+use Rattle.shelf.specs.Archive.{StoredValue, stored, is_same_stored, has}
 use Rattle.shelf.specs.Devices.{IsCounted}
 use Rattle.shelf.specs.Index.{Key, key_cmp, place_in, digest_for, IsIndexed, IsFree, IsListing}
 use Rattle.shelf.specs.declared.devices.Devices.{Devices}
 use Rattle.shelf.proofs.Indexed.{indexed-kept, indexed-more, indexed-front}
-use Rattle.shelf.proofs.Lists.{once-front, once-more}
+use Rattle.record_lists.proofs.EachOnce.{once-front, once-more}
+use Rattle.shelf.proofs.Lists.{stored-tell}
 
 abbrev under : List (Key × ℕ) → Key → Option ℕ
 under es key = lookup (is_at (key_cmp key)) es
@@ -43,7 +44,7 @@ module _ (list items seen : List StoredValue) (places new : BTreeMap Key ℕ) (d
       let P : List StoredValue → Type 0 = λ l. IsListing l new e in
       let Q : List StoredValue → Type 0 = λ l. IsCounted (l ++ stored imei r ∷ []) e in
       subst P (sym (last ∙ ap (λ (l : List StoredValue). l ++ stored imei r ∷ []) same)) (record {
-        once = once-more list imei r fresh is.once;
+        once = once-more is_same_stored stored-tell list (stored imei r) fresh is.once;
         indexed = indexed-more places new (key, number) place updates none list imei r is.indexed free device at;
         counted = subst Q (read ∙ same) counted;
       })

@@ -8,7 +8,7 @@ use Rattle.record_layout.specs.SomeRecord.{IsSomeRecord}
 use Rattle.record_layout.specs.RecordsOf.{records_of}
 use Rattle.archive_journal.proofs.Packets.{IsWhole, in_codec}
 use Rattle.shelf.specs.Archive.{StoredValue, stored, has, add, admitted, ArePlaces, Begins}
-use Rattle.shelf.proofs.Lists.{get-front}
+use Rattle.record_lists.proofs.EachOnce.{get-front}
 
 pub begins-self : (list : List StoredValue) → Begins list list
 begins-self list = record { more = []; is = sym (append-nil list) }

@@ -1,8 +1,8 @@
 -- The record list of an archive: each record of a device once, at its first place (this project's own).
-use Rattle.std.specs.Prelude.{◌≡◌, ℕ, ◌+◌, ◌==◌, ◌&&◌, ◌||◌, nat_eq, if◌then◌else◌, Bool, false, List, [], ◌∷◌, ◌++◌, map, slice_get, Some}
-use Rattle.std.specs.Cmp.Lexicographic.{pointwise}
-use Rattle.avl_values.specs.Codec.{is_codec}
+use Rattle.std.specs.Prelude.{◌≡◌, ℕ, ◌+◌, ◌==◌, ◌&&◌, ◌||◌, if◌then◌else◌, Bool, false, List, [], ◌∷◌, ◌++◌, map, slice_get, Some}
 use Rattle.avl_values.specs.Record.{Record}
+use Rattle.record_lists.specs.EachOnce.{is_listed, add_once}
+use Rattle.record_lists.specs.SameRecord.{is_same}
 use Rattle.archive_journal.specs.Body.{EntryValue}
 
 -- a record of a device
@@ -13,18 +13,17 @@ pub record StoredValue : Type 0 where
 abbrev pub stored : ℕ → Record → StoredValue
 stored imei r = record { imei = imei; rec = r }
 
--- two records are one where codec and bytes are the same
-abbrev pub is_record : Record → Record → Bool
-is_record a b = is_codec a.codec b.codec && pointwise nat_eq a.bytes b.bytes
+-- the same record of the same device
+abbrev pub is_same_stored : StoredValue → StoredValue → Bool
+is_same_stored a b = (a.imei == b.imei) && is_same a.rec b.rec
 
 -- this device has this record
 abbrev pub has : List StoredValue → ℕ → Record → Bool
-has [] imei r = false
-has (s ∷ list) imei r = ((s.imei == imei) && is_record s.rec r) || has list imei r
+has list imei r = is_listed is_same_stored list (stored imei r)
 
 -- a record added at the end, unless its device has it
 abbrev pub add : List StoredValue → ℕ → Record → List StoredValue
-add list imei r = if has list imei r then list else list ++ stored imei r ∷ []
+add list imei r = add_once is_same_stored list (stored imei r)
 
 -- the records of a packet added in turn
 abbrev pub admitted : List StoredValue → ℕ → List Record → List StoredValue
@@ -71,10 +70,6 @@ ArePlaces list imei [] [] = Unit {0}
 ArePlaces list imei [] (p ∷ ps) = ⊥
 ArePlaces list imei (r ∷ rs) [] = ⊥
 ArePlaces list imei (r ∷ rs) (p ∷ ps) = (slice_get list p ≡ Some (stored imei r)) × ArePlaces list imei rs ps
-
--- no record of a device stands twice
-abbrev pub IsOnce : List StoredValue → Type 0
-IsOnce list = (p q : ℕ) (s : StoredValue) → slice_get list p ≡ Some s → slice_get list q ≡ Some s → p ≡ q
 
 -- a list with some more behind it
 pub record Begins (old new : List StoredValue) : Type 0 where

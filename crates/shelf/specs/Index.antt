@@ -5,7 +5,8 @@ use Rattle.std.specs.BTreeMap.{BTreeMap, get}
 use Rattle.std.specs.Ordering.{nat_cmp, ordering_then}
 use Rattle.std.specs.declared.cmp.Ordering.{Ordering}
 use Rattle.avl_values.specs.Record.{Record}
-use Rattle.shelf.specs.Archive.{StoredValue, stored, has, IsOnce}
+use Rattle.record_lists.specs.EachOnce.{IsOnce}
+use Rattle.shelf.specs.Archive.{StoredValue, stored, has}
 use Rattle.shelf.specs.Devices.{IsCounted}
 use Rattle.shelf.specs.Digest.{digest_of}
 use Rattle.shelf.specs.declared.devices.Devices.{Devices}

@@ -1,8 +1,9 @@
 //! The record list of an archive, with its index and its devices.
 ghost use Rattle.std.specs.Prelude.{◌≡◌, ◌≤◌, ◌<◌, ◌^◌, ◌-◌, ◌++◌, ◌∷◌, [], false, drop, length, take, slice_get, Some, IfOk, OnOk, OnErr, IsTrue};
+ghost use Rattle.record_lists.specs.EachOnce.{IsOnce};
 ghost use Rattle.record_codecs.specs.SomeRecord.{IsSomeRecord};
 ghost use Rattle.record_layout.specs.RecordsOf.{records_of, count_of};
-ghost use Rattle.shelf.specs.Archive.{ArePlaces, Begins, IsOnce, add, admitted, devices_of, list_of, places_of, stored};
+ghost use Rattle.shelf.specs.Archive.{ArePlaces, Begins, add, admitted, devices_of, list_of, places_of, stored};
 ghost use Rattle.shelf.specs.Index.{IsIndexed, IsListing, IsSlot, place_in};
 ghost use Rattle.record_layout.specs.Body.{IsBody};
 ghost use Rattle.record_layout.specs.declared.head.PacketHead.{PacketHead};

@@ -42,6 +42,7 @@ use Rattle.trial_bench.proofs.KeptRounds.{quiet_round, talked_round}
 use Rattle.trial_bench.proofs.KeptStores.{nothing_cut, nothing_overwritten}
 use Rattle.trial_bench.proofs.Listed.{all_have_places, places_few}
 use Rattle.trial_bench.proofs.Loads.{load_counts, uncovered}
+use Rattle.record_lists.proofs.EachOnce.{once-none}
 use Rattle.trial_bench.proofs.Once.{in_itself, none_in, once}
 use Rattle.trial_bench.proofs.Plays.{chosen, decided_is, each_one, lines_are, one_device, plain_device, plain_lines}
 
@@ -166,9 +167,9 @@ kept_stored s none =
         cut = none_in all;
         overwritten = none_in all;
         flash_once = once (made_by s);
-        archived_once = refl;
-        cut_once = refl;
-        overwritten_once = refl;
+        archived_once = once-none;
+        cut_once = once-none;
+        overwritten_once = once-none;
       };
       nothing_lost = λ k d below. inl (in_itself all k d below);
       cut = refl;
@@ -195,10 +196,10 @@ sent_kept s logs records made evidence =
         archived = in_itself all;
         cut = none_in all;
         overwritten = none_in all;
-        flash_once = refl;
+        flash_once = once-none;
         archived_once = once records;
-        cut_once = refl;
-        overwritten_once = refl;
+        cut_once = once-none;
+        overwritten_once = once-none;
       };
       nothing_lost = λ k d below. inr (inl (in_itself all k d below));
       cut = refl;

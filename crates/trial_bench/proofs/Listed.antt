@@ -1,43 +1,17 @@
 -- Which records a list with each record at its first place holds.
-use Rattle.std.proofs.Common.{◌≡◌, suc, ◌+◌, ◌≤◌, ◌&&◌, Bool, true, false, List, [], ◌∷◌, ◌++◌, length, length-append, fold, if◌then◌else◌, refl, ap, ◌∙◌, arith}
+use Rattle.std.proofs.Common.{◌≡◌, suc, ◌+◌, ◌≤◌, Bool, true, false, List, [], ◌∷◌, ◌++◌, length, length-append, fold, if◌then◌else◌, refl, arith}
 use Rattle.std.specs.List.{All, Contains}
-use Rattle.std.specs.Str.{bytes_eq}
 use Rattle.std.proofs.lemmas.Bool.{false≢true}
 use Rattle.std.proofs.lemmas.List.Elements.{All-cons, All-head, All-nil, All-push, All-tail, Contains-append_left, Contains-append_right}
-use Rattle.std.proofs.lemmas.Slice.Eq.{bytes_eq-Decides}
-use Rattle.avl_values.specs.Codec.{is_codec}
 use Rattle.avl_values.specs.Record.{Record}
-use Rattle.avl_values.specs.declared.codec.Codec.{Codec}
-use Rattle.avl_values.specs.declared.codec.Codec.TheVariants.{C8, C8E, C16}
-use Rattle.trial_model.specs.RecordLists.{AreIn, add_once, first_places, is_listed, is_same}
+use Rattle.record_lists.specs.SameRecord.{is_same}
+use Rattle.record_lists.proofs.SameRecord.{records-tell}
+use Rattle.trial_model.specs.RecordLists.{AreIn, add_once, first_places, is_listed}
 
 -- what holds of either holds of the one that is taken
 pub either : {A : Type 0} (P : A → Type 0) (b : Bool) (x y : A) → P x → P y → P (if b then x else y)
 either P true x y h k = h
 either P false x y h k = k
-
-same_codec : (c d : Codec) → is_codec c d ≡ true → c ≡ d
-same_codec C8 C8 h = refl
-same_codec C8 C8E h = absurd (false≢true h)
-same_codec C8 C16 h = absurd (false≢true h)
-same_codec C8E C8 h = absurd (false≢true h)
-same_codec C8E C8E h = refl
-same_codec C8E C16 h = absurd (false≢true h)
-same_codec C16 C8 h = absurd (false≢true h)
-same_codec C16 C8E h = absurd (false≢true h)
-same_codec C16 C16 h = refl
-
-both : (a b : Bool) → (a && b) ≡ true → (a ≡ true) × (b ≡ true)
-both true true h = (refl, refl)
-both true false h = absurd (false≢true h)
-both false b h = absurd (false≢true h)
-
-same_record : (r s : Record) → is_same r s ≡ true → r ≡ s
-same_record r s h =
-    let parts = both (is_codec r.codec s.codec) (bytes_eq r.bytes s.bytes) h in
-    let bytes : r.bytes ≡ s.bytes = (bytes_eq-Decides r.bytes s.bytes).0 parts.1 in
-    let codec = same_codec r.codec s.codec parts.0 in
-    ap (λ c. record { codec = c; bytes = r.bytes }) codec ∙ ap (λ b. record { codec = s.codec; bytes = b }) bytes
 
 first_in : (s r : Record) (more : List Record) → s ≡ r → Contains (s ∷ more) r
 first_in s r more e = (0, omega arith, e)
@@ -46,7 +20,7 @@ later_in : (s r : Record) (more : List Record) → Contains more r → Contains 
 later_in s r more c = (suc c.0, omega (arith, c.1), c.2)
 
 first_or_later : (s r : Record) (more : List Record) (same : Bool) → is_same s r ≡ same → (is_listed more r ≡ true → Contains more r) → is_listed (s ∷ more) r ≡ true → Contains (s ∷ more) r
-first_or_later s r more true e later h = first_in s r more (same_record s r e)
+first_or_later s r more true e later h = first_in s r more (records-tell.equal s r e)
 first_or_later s r more false e later h = later_in s r more (later (rw e at h))
 
 -- a listed record is one of the list

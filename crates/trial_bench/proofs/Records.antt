@@ -5,7 +5,8 @@ use Rattle.std.proofs.lemmas.List.Folds.{list_any_at, list_any_more}
 use Rattle.avl_values.specs.Record.{Record}
 use Rattle.avl_values.specs.Viewed.{record_of, records_of}
 use Rattle.avl_values.specs.declared.rec.Rec.{Rec}
-use Rattle.trial_model.specs.RecordLists.{is_listed, is_same}
+use Rattle.record_lists.specs.SameRecord.{is_same}
+use Rattle.trial_model.specs.RecordLists.{is_listed}
 
 -- a list of tracker's records as records
 any_of_records : (p : Record → Bool) (recs : List Rec) → list_any p (records_of recs) ≡ list_any (λ r. p (record_of r)) recs

@@ -1,7 +1,8 @@
 ghost use Rattle.std.specs.Prelude.{◌≡◌, OnOk};
 ghost use Rattle.avl_values.specs.Codec.{is_codec};
 ghost use Rattle.avl_values.specs.Viewed.{record_of, records_of};
-ghost use Rattle.trial_model.specs.RecordLists.{add_once, is_listed, is_same};
+ghost use Rattle.record_lists.specs.SameRecord.{is_same};
+ghost use Rattle.trial_model.specs.RecordLists.{add_once, is_listed};
 
 use avl_values::{Codec, NoMemory, Rec, RecList, WideList, WideRec};
 use std::alloc::Global;

@@ -1,6 +1,7 @@
 -- A device's lists hold acquired records alone, and each record once.
 use Rattle.trial_model.specs.declared.outcome.DeviceOutcome.{DeviceOutcome}
-use Rattle.trial_model.specs.RecordLists.{AreIn, IsOnce}
+use Rattle.trial_model.specs.RecordLists.{AreIn}
+use Rattle.record_lists.specs.EachOnce.{IsOnce}
 
 pub record HasOnlyAcquired (d : DeviceOutcome) : Type 0 where
   pub flash : AreIn d.acquired d.flash

@@ -1,5 +1,6 @@
 use Rattle.std.proofs.Common.{List, subst}
-use Rattle.shelf.specs.Archive.{StoredValue, IsOnce}
+use Rattle.shelf.specs.Archive.{StoredValue}
+use Rattle.record_lists.specs.EachOnce.{IsOnce}
 use Rattle.shelf.proofs.listing.Listing.records.Goals as goal
 
 pub returns-clause-once : goal.returns-clause-once
