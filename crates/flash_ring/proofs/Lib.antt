@@ -4,6 +4,7 @@ pub mod Entries
 pub mod Formats
 pub mod HeldRecords
 pub mod Loads
+pub mod Queues
 pub mod Ranks
 pub mod Restarts
 pub mod Rings

@@ -2,6 +2,7 @@ pub mod Entries
 pub mod Held
 pub mod Images
 pub mod Rank
+pub mod Queue
 pub mod Records
 pub mod Refusal
 pub mod Ring

@@ -7,6 +7,7 @@ mod format;
 mod held;
 mod laws;
 mod load;
+mod queue;
 mod rank;
 mod ring;
 mod store;

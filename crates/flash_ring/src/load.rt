@@ -6,15 +6,20 @@ ghost use Rattle.medium_model.specs.State.{CountedMaybe, CountedSome, IfTold, Is
 ghost use Rattle.medium_model.specs.PowerLoss.{EveryImage, WasImage};
 ghost use Rattle.flash_ring.specs.Held.{AreSound};
 ghost use Rattle.flash_ring.specs.Images.{IsSettled};
+ghost use Rattle.flash_ring.specs.Queue.{queue_of};
+ghost use Rattle.std.specs.VecDeque.{deque_capacity};
 ghost use Rattle.flash_ring.specs.Refusal.{Refuses, RefusesOpen, as_open};
 ghost use Rattle.flash_ring.specs.Slot.{IsFlash, slots_of};
 ghost use Rattle.flash_ring.specs.declared.load.ReopenFault.TheVariants.{MediumFault};
 ghost use Rattle.flash_ring.specs.declared.load.OpenFault.TheVariants as opening;
 
 use crate::held::{Held, SLOT_BYTES, Unsound, read_slot};
+use crate::queue::{empty, fill};
+use crate::rank::Found;
 use avl_values::{Failed, NoMemory};
 use medium_model::{Medium, ReserveError};
 use std::alloc::Global;
+use std::collections::VecDeque;
 
 /// Why a ring isn't opened again. It is down.
 #[derive(Clone, Copy, Debug, PartialEq, Eq)]
@@ -170,19 +175,21 @@ fn make_ready<M: Medium>(medium: &mut M, to: u64) -> Result<(), OpenFault>
     }
 }
 
-/// Makes the medium ready, takes memory for `slots` slots, and loads them.
+/// Makes the medium ready, takes memory for `slots` slots and for the queue of open ones, and loads them.
 pub fn load_anew<M: Medium>(
     alloc: Global,
     medium: &mut M,
     slots: u16,
-) -> Result<Vec<Option<Held>>, OpenFault>
+) -> Result<(Vec<Option<Held>>, VecDeque<Found>), OpenFault>
     requires few { slots ≤ 4096 }
-    ensures size { IfOk result (λ found. length found.items ≡ slots) }
+    ensures size { IfOk result (λ found. length found.0.items ≡ slots) }
+    ensures room { IfOk result (λ found. slots ≤ deque_capacity found.1) }
+    ensures queue { IfOk result (λ found. found.1.items ≡ queue_of found.0.items) }
     ensures ready { OnOk result (272 * slots ≤ (M.state medium.new).ready) }
-    ensures settled { IfOk result (λ found. IfTold (M.state medium.new).content (IsSettled slots found.items)) }
-    ensures holds { IfOk result (λ found. IfTold (M.state medium.old).content (λ c. found.items ≡ slots_of slots c.reads)) }
+    ensures settled { IfOk result (λ found. IfTold (M.state medium.new).content (IsSettled slots found.0.items)) }
+    ensures holds { IfOk result (λ found. IfTold (M.state medium.old).content (λ c. found.0.items ≡ slots_of slots c.reads)) }
     ensures flash { OnOk result (IfTold (M.state medium.old).content (λ c. IsFlash slots c.reads)) }
-    ensures sound { IfOk result (λ found. AreSound found.items) }
+    ensures sound { IfOk result (λ found. AreSound found.0.items) }
     ensures synced { OnOk result ((M.state medium.new).content ≡ told after_sync (M.state medium.old).content) }
     ensures either { IsEither (M.state medium.old).content (told after_sync (M.state medium.old).content) (M.state medium.new).content }
     ensures images { EveryImage (M.state medium.new).content (WasImage (M.state medium.old).content) }
@@ -191,6 +198,8 @@ pub fn load_anew<M: Medium>(
 {
     make_ready(medium, SLOT_BYTES as u64 * slots as u64)?;
     let mut found = closed_slots(alloc, slots)?;
+    let mut queue = empty(alloc, slots)?;
     load_all(medium, &mut found)?;
-    Ok(found)
+    fill(&mut queue, &found);
+    Ok((found, queue))
 }

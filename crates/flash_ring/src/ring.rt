@@ -1,5 +1,6 @@
-ghost use Rattle.std.specs.Prelude.{◌≡◌, ◌≢◌, ◌⊎◌, ◌↔◌, ◌+◌, ◌*◌, ◌<◌, ◌≤◌, ◌^◌, true, false, ℕ, [], ◌∷◌, drop, length, replicate, set, slice_get, Some, None, IfNone, IfSome, IfOk, IfErr, OnOk, OnErr, IsOk, IsErr, IsErrOf, IsSome};
+ghost use Rattle.std.specs.Prelude.{◌≡◌, ◌≢◌, ◌⊎◌, ◌↔◌, ◌+◌, ◌*◌, ◌<◌, ◌≤◌, ◌^◌, true, false, ℕ, [], ◌∷◌, drop, length, replicate, set, slice_get, take, Some, None, IfNone, IfSome, IfOk, IfErr, OnOk, OnErr, IsOk, IsErr, IsErrOf, IsSome};
 ghost use Rattle.avl_values.specs.Viewed.{record_of};
+ghost use Rattle.std.specs.VecDeque.{deque_capacity};
 ghost use Rattle.medium_model.specs.CallsLeft.{Fails, after, unlimited};
 ghost use Rattle.medium_model.specs.Content.{after_sync, settled};
 ghost use Rattle.medium_model.specs.State.{Counted, CountedSome, IfTold, IsRestarted, IsRun, told};
@@ -8,6 +9,7 @@ ghost use Rattle.record_codecs.specs.SomeRecord.{IsSomeRecord};
 ghost use Rattle.flash_ring.specs.Entries.{IsOldest, entries_of, first_slot, held_of, selected, with_room};
 ghost use Rattle.flash_ring.specs.Held.{closed_all, first_closed, is_full, next_of, put_in, rec_at};
 ghost use Rattle.flash_ring.specs.Images.{AreDistinct, AreOpen, MayClose, OthersStay, reached};
+ghost use Rattle.flash_ring.specs.Queue.{queue_of};
 ghost use Rattle.flash_ring.specs.Refusal.{Refuses, RefusesOpen};
 ghost use Rattle.flash_ring.specs.Ring.{EachHolds, EverySound, IsDurable, MayHold, put_calls, room_calls};
 ghost use Rattle.medium_model.specs.Images.{IsEither};
@@ -18,12 +20,14 @@ use crate::close::close_slots;
 use crate::format::format;
 use crate::held::Held;
 use crate::load::{OpenFault, ReopenFault, load_all, load_anew};
-use crate::rank::{count_open, oldest_slot, select};
+use crate::queue::{fill, push, take_out};
+use crate::rank::{Found, select};
 use crate::store::store;
 use arrayvec::ArrayVec;
 use avl_values::{Failed, MediumFault, Rec};
 use medium_model::{Bench, Medium, Tear};
 use std::alloc::Global;
+use std::collections::VecDeque;
 use std::marker::Model;
 
 const SEQ_END: u64 = 1 << 63;
@@ -45,29 +49,37 @@ pub enum PutFault {
 pub struct Ring<M: Medium> {
     medium: M,
     slots: Vec<Option<Held>>,
+    // The open slots in order.
+    queue: VecDeque<Found>,
+    // Each slot before this one is open.
+    opened: usize,
     next: u64,
     down: bool,
 }
 
 impl<M: Medium> Model for Ring<M> {
+    ghost use Rattle.std.specs.VecDeque.{deque_capacity};
+    ghost use Rattle.flash_ring.specs.Queue.{HasQueue};
     ghost use Rattle.flash_ring.specs.Ring.{RingView, IsRing};
 
     ghost Value = { RingView };
 
     ghost view = { λ r. record { medium = M.state r.medium; slots = r.slots.items; next = r.next; down = r.down } };
 
-    ghost invariant = { λ r. IsRing (record { medium = M.state r.medium; slots = r.slots.items; next = r.next; down = r.down }) };
+    // The queue has room for each slot, and while the ring is up it has the open ones.
+    ghost invariant = { λ r. IsRing (record { medium = M.state r.medium; slots = r.slots.items; next = r.next; down = r.down }) × HasQueue r.slots.items r.queue.items (deque_capacity r.queue) r.opened r.down };
 }
 
-// The closed slot with the lowest number, where there is one.
+// The closed slot with the lowest number, where there is one. Each slot before `opened` is open.
 #[tactic(auto, using(crate::proofs::Rings::first_here, crate::proofs::Rings::full_more, crate::proofs::Rings::not_full))]
-fn find_closed(slots: &[Option<Held>]) -> Option<u16>
+fn find_closed(slots: &[Option<Held>], opened: usize) -> Option<u16>
     requires few { length slots.now ≤ 4096 }
+    requires opened { is_full (take opened slots.now) ≡ true }
     ensures full { IfNone result (is_full slots.now ≡ true) }
     ensures room { IfSome result (λ k. is_full slots.now ≡ false) }
     ensures first { IfSome result (λ k. k ≡ first_closed slots.now) }
 {
-    for slot in 0..slots.len() {
+    for slot in opened..slots.len() {
         if slots[slot].is_none() {
             return Some(slot as u16);
         }
@@ -76,26 +88,46 @@ fn find_closed(slots: &[Option<Held>]) -> Option<u16>
 }
 
 // The slot of the oldest record, where every slot is open.
-#[tactic(auto, using(crate::proofs::Rings::is_oldest))]
-fn oldest(slots: &[Option<Held>]) -> Option<u16>
+#[tactic(auto, using(crate::proofs::Rings::is_oldest, crate::proofs::Queues::queue_full, crate::proofs::Queues::queue_room))]
+fn oldest(slots: &[Option<Held>], queue: &VecDeque<Found>) -> Option<u16>
     requires some { 0 < length slots.now }
-    requires few { length slots.now ≤ 4096 }
+    requires queue { queue.now.items ≡ queue_of slots.now }
     ensures room { IfNone result (is_full slots.now ≡ false) }
     ensures full { IfSome result (λ k. is_full slots.now ≡ true) }
     ensures oldest { IfSome result (IsOldest slots.now) }
 {
-    if find_closed(slots).is_some() {
+    if queue.len() < slots.len() {
         return None;
     }
-    Some(oldest_slot(slots))
+    Some(queue[0].slot)
 }
 
-fn close_all(held: &mut Vec<Option<Held>>, slots: &[u16])
-    requires { AreOpen slots.now held.old.items }
-    ensures { held.new.items ≡ closed_all slots.now held.old.items }
+fn lesser(a: usize, b: usize) -> usize
+    ensures first { result ≤ a }
+    ensures second { result ≤ b }
+{
+    if a < b { a } else { b }
+}
+
+// Closes these slots. `opened` falls to the first of them, where that is less.
+fn close_all(
+    held: &mut Vec<Option<Held>>,
+    queue: &mut VecDeque<Found>,
+    opened: &mut usize,
+    slots: &[u16],
+)
+    requires opens { AreOpen slots.now held.old.items }
+    requires queue { queue.old.items ≡ queue_of held.old.items }
+    requires opened { is_full (take opened.old held.old.items) ≡ true }
+    ensures closed { held.new.items ≡ closed_all slots.now held.old.items }
+    ensures queue { queue.new.items ≡ queue_of held.new.items }
+    ensures capacity { deque_capacity queue.new ≡ deque_capacity queue.old }
+    ensures opened { is_full (take opened.new held.new.items) ≡ true }
 {
     for slot in slots {
         held[*slot as usize] = None;
+        take_out(queue, *slot);
+        *opened = lesser(*opened, *slot as usize);
     }
 }
 
@@ -156,11 +188,13 @@ impl<M: Medium> Ring<M> {
     {
         let mut medium = medium;
         match load_anew(alloc, &mut medium, slots) {
-            Ok(found) => {
+            Ok((found, queue)) => {
                 let next = next_after(&found);
                 Ok(Ring {
                     medium,
                     slots: found,
+                    queue,
+                    opened: 0,
                     next,
                     down: false,
                 })
@@ -191,6 +225,8 @@ impl<M: Medium> Ring<M> {
     {
         self.down = true;
         load_all(&mut self.medium, &mut self.slots)?;
+        fill(&mut self.queue, &self.slots);
+        self.opened = 0;
         self.next = next_after(&self.slots);
         self.down = false;
         Ok(())
@@ -245,7 +281,7 @@ impl<M: Medium> Ring<M> {
         if self.next == SEQ_END {
             return Err(PutFault::SeqSpent);
         }
-        let Some(slot) = find_closed(&self.slots) else {
+        let Some(slot) = find_closed(&self.slots, self.opened) else {
             unreachable!()
         };
         let held = Held::new(self.next, rec);
@@ -253,7 +289,9 @@ impl<M: Medium> Ring<M> {
             self.down = true;
             return Err(PutFault::MediumFault);
         }
+        push(&mut self.queue, slot, &held);
         self.slots[slot as usize] = Some(held);
+        self.opened = slot as usize + 1;
         self.next += 1;
         Ok(())
     }
@@ -279,7 +317,7 @@ impl<M: Medium> Ring<M> {
             self.down = true;
             return Err(MediumFault);
         }
-        close_all(&mut self.slots, slots);
+        close_all(&mut self.slots, &mut self.queue, &mut self.opened, slots);
         Ok(())
     }
 
@@ -290,7 +328,7 @@ impl<M: Medium> Ring<M> {
         ensures count { result ≡ length (held_of self.now.slots) }
         ensures durable { self.now.down ≡ false → IsDurable self.now }
     {
-        count_open(&self.slots)
+        self.queue.len() as u16
     }
 
     /// The record with the least sequence, where every slot is open.
@@ -302,7 +340,7 @@ impl<M: Medium> Ring<M> {
         ensures oldest { IfSome result (λ rec. held_of self.now.slots ≡ record_of rec.now ∷ drop 1 (held_of self.now.slots)) }
         ensures durable { self.now.down ≡ false → IsDurable self.now }
     {
-        let slot = oldest(&self.slots)?;
+        let slot = oldest(&self.slots, &self.queue)?;
         match &self.slots[slot as usize] {
             Some(held) => Some(&held.rec),
             None => unreachable!(),
@@ -327,7 +365,7 @@ impl<M: Medium> Ring<M> {
     {
         // The proof takes from it that the ring is durable.
         let _durable = self.is_down();
-        match oldest(&self.slots) {
+        match oldest(&self.slots, &self.queue) {
             None => Ok(()),
             Some(slot) => self.release(&[slot]),
         }
@@ -343,7 +381,7 @@ impl<M: Medium> Ring<M> {
         ensures distinct { AreDistinct result.items }
         ensures durable { self.now.down ≡ false → IsDurable self.now }
     {
-        select(&self.slots, order, room)
+        select(&self.slots, &self.queue, order, room)
     }
 
     /// The record of an open slot, None for a closed one and after the last.

@@ -12,4 +12,4 @@ returns-in-Some-clause-sound g c =
     let up = ap (λ (v : RingView). v.down) c.self.view_is ∙ c.requires in
     let P : Record → Type 0 = λ r. IsSomeRecord r.codec r.bytes in
     subst P (sym (ap (λ (h : Held). h.rec) c.held.view_is))
-    (sound_at _ c.args.slot c.index.result.now c.in-Some.held (c.self.invariant.up up) (omega (arith, c.self.inside.slots.ok.0)) c.index.ensures c.in-Some.is)
+    (sound_at _ c.args.slot c.index.result.now c.in-Some.held (c.self.invariant.0.up up) (omega (arith, c.self.inside.slots.ok.0)) c.index.ensures c.in-Some.is)
