@@ -6,8 +6,8 @@ use crate::field::Field;
 use crate::frame_machine::{FrameMachine, FrameStep};
 use avl_values::Fault;
 use command_layout::Way;
+use layout::Steps;
 use std::sync::ledger::Ledger;
-use step_count::Steps;
 
 /// Judges the bytes of an item down one at a time, and holds none of them.
 #[derive(Clone, Copy)]

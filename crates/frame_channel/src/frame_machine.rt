@@ -11,8 +11,8 @@ use crate::frame_cursor::{FrameCursor, FrameNext};
 use avl_values::Fault;
 use command_layout::Way;
 use frame_layout::BodyKind;
+use layout::Steps;
 use std::sync::ledger::Ledger;
-use step_count::Steps;
 
 /// Judges the bytes of a frame one at a time, and holds none of them.
 #[derive(Clone, Copy)]

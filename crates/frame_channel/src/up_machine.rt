@@ -7,8 +7,8 @@ use crate::login_machine::{LoginMachine, LoginStep};
 use avl_values::{Fault, Imei};
 use command_layout::Way;
 use frame_layout::BodyKind;
+use layout::Steps;
 use std::sync::ledger::Ledger;
-use step_count::Steps;
 
 /// Judges the bytes of an item up one at a time, and holds none of them.
 #[derive(Clone, Copy)]
