@@ -4,6 +4,7 @@ pub mod BodyTakes
 pub mod DataFrames
 pub mod Digits
 pub mod DownSteps
+pub mod Exports
 pub mod FieldSteps
 pub mod FrameSteps
 pub mod LentBodies
