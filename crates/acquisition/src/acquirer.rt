@@ -1,5 +1,5 @@
 ghost use Rattle.std.specs.Prelude.{◌≡◌};
-ghost use Rattle.avl_values.specs.Viewed.{records_of};
+ghost use Rattle.avl_values.specs.Viewed.{records_viewed};
 ghost use Rattle.acquisition.specs.Deciding.{decided};
 ghost use Rattle.acquisition.specs.Elements.{ValuesFit};
 ghost use Rattle.acquisition.specs.Sound.{AreRecordsOf};
@@ -67,9 +67,9 @@ impl Acquirer {
     /// the fix differs enough from it. It takes no memory.
     pub fn fix(&mut self, fix: &Fix) -> ArrayVec<Rec, 32>
         requires { ValuesFit self.old.settings.ios fix.now.values.items }
-        ensures records { records_of result.items ≡ (decided self.old.settings self.old.watching fix.now).records }
+        ensures records { records_viewed result.items ≡ (decided self.old.settings self.old.watching fix.now).records }
         ensures watching { self.new ≡ record self.old { watching = (decided self.old.settings self.old.watching fix.now).watching } }
-        ensures sound { AreRecordsOf self.old.settings.codec (records_of result.items) }
+        ensures sound { AreRecordsOf self.old.settings.codec (records_viewed result.items) }
     {
         let (fired, watches) = self
             .settings

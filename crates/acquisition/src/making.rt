@@ -3,7 +3,7 @@ ghost use Rattle.std.specs.Prelude.{◌≡◌, ◌≤◌, length, map};
 ghost use Rattle.std.specs.List.{AllByRecursion};
 ghost use Rattle.std.specs.Int.{abs_diff};
 ghost use Rattle.avl_values.specs.RecordValue.{value_of};
-ghost use Rattle.avl_values.specs.Viewed.{record_of, records_of};
+ghost use Rattle.avl_values.specs.Viewed.{record_of, records_viewed};
 ghost use Rattle.record_layout.specs.SomeRecord.{IsSomeRecord};
 ghost use Rattle.record_layout.specs.Spelling.{HasNoOther, IsRecord};
 ghost use Rattle.record_writing.specs.Length.{record_length};
@@ -125,7 +125,7 @@ impl Settings {
         requires fit { ValuesFit self.now.ios fix.now.values.items }
         requires narrow { AreNarrow self.now.codec fired.now }
         requires few { length fired.now ≤ 32 }
-        ensures made { records_of result.items ≡ map (event_record self.now fix.now) fired.now }
+        ensures made { records_viewed result.items ≡ map (event_record self.now fix.now) fired.now }
         ensures sound { AreRecordsOf self.now.codec (map (event_record self.now fix.now) fired.now) }
     {
         let mut records = ArrayVec::new();
@@ -138,7 +138,7 @@ impl Settings {
     /// The record of a fix that is due, if it is.
     fn plain_records(&self, last: Option<LastFix>, fix: &Fix) -> ArrayVec<Rec, 32>
         requires { ValuesFit self.now.ios fix.now.values.items }
-        ensures made { records_of result.items ≡ plain_if (is_due self.now last fix.now) self.now fix.now }
+        ensures made { records_viewed result.items ≡ plain_if (is_due self.now last fix.now) self.now fix.now }
         ensures sound { AreRecordsOf self.now.codec (plain_if (is_due self.now last fix.now) self.now fix.now) }
     {
         let mut records = ArrayVec::new();
@@ -158,7 +158,7 @@ impl Settings {
         requires fit { ValuesFit self.now.ios fix.now.values.items }
         requires narrow { AreNarrow self.now.codec fired.now }
         requires few { length fired.now ≤ 32 }
-        ensures made { records_of result.items ≡ made self.now last fix.now fired.now }
+        ensures made { records_viewed result.items ≡ made self.now last fix.now fired.now }
         ensures sound { AreRecordsOf self.now.codec (made self.now last fix.now fired.now) }
     {
         match fired {

@@ -6,5 +6,5 @@ use Rattle.avl_values.specs.Record.{Record}
 abbrev pub record_of : Rec → Record
 record_of rec = record { codec = rec.codec; bytes = rec.bytes.items }
 
-abbrev pub records_of : List Rec → List Record
-records_of recs = map record_of recs
+abbrev pub records_viewed : List Rec → List Record
+records_viewed recs = map record_of recs

@@ -1,5 +1,5 @@
 ghost use Rattle.std.specs.Prelude.{◌≡◌, ◌<◌, ◌↔◌, [], ◌∷◌, ◌++◌, Some, length, slice_get, IsTrue, OnOk, OnErr};
-ghost use Rattle.avl_values.specs.Viewed.{record_of, records_of};
+ghost use Rattle.avl_values.specs.Viewed.{record_of, records_viewed};
 
 use crate::{NoMemory, Rec};
 use std::alloc::Global;
@@ -14,11 +14,11 @@ pub struct RecList {
 impl Model for RecList {
     ghost use Rattle.std.specs.Prelude.{List};
     ghost use Rattle.avl_values.specs.Record.{Record};
-    ghost use Rattle.avl_values.specs.Viewed.{records_of};
+    ghost use Rattle.avl_values.specs.Viewed.{records_viewed};
 
     ghost Value = { List Record };
 
-    ghost view = { λ l. records_of l.items.items };
+    ghost view = { λ l. records_viewed l.items.items };
 }
 
 impl RecList {
@@ -33,14 +33,14 @@ impl RecList {
 
     /// The same list. It takes no memory.
     pub fn from_vec(items: Vec<Rec>) -> RecList
-        ensures { result ≡ records_of items.items }
+        ensures { result ≡ records_viewed items.items }
     {
         RecList { items }
     }
 
     /// The same list. It takes no memory.
     pub fn into_vec(self) -> Vec<Rec>
-        ensures { records_of result.items ≡ self }
+        ensures { records_viewed result.items ≡ self }
     {
         let RecList { items } = self;
         items
@@ -62,7 +62,7 @@ impl RecList {
 
     /// The records, in order.
     pub fn as_slice(&self) -> &[Rec]
-        ensures { records_of result.now ≡ self.now }
+        ensures { records_viewed result.now ≡ self.now }
     {
         self.items.as_slice()
     }

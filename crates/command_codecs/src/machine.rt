@@ -5,8 +5,8 @@ use crate::place::CommandPlace;
 use crate::verdict::CommandScan;
 use command_layout::Way;
 use field_machine::Machine;
+use layout::Steps;
 use std::sync::ledger::Ledger;
-use step_count::Steps;
 
 /// Judges the bytes of a command's body of a known length, one at a time, and holds none of them. After each byte it answers
 /// what `scan_command` answers of all bytes so far.

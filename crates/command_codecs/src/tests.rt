@@ -7,12 +7,12 @@ use super::{
 };
 use arrayvec::ArrayVec;
 use avl_values::{Fault, FaultKind, Imei};
+use layout::Steps;
 use std::marker::Brand;
 use std::mem::size_of;
 use std::process::Abort;
 use std::sync::ledger::{Blank, Ledger};
 use std::test::Fail;
-use step_count::Steps;
 
 /// Teltonika's examples, the refusal of Codec 14 among them, and a message of Codec 13.
 fn rows() -> [(

@@ -1,14 +1,11 @@
 -- The laws of commands.
 use Rattle.std.proofs.Common.{◌≡◌, ℕ, ◌+◌, ◌≤◌, List, [], ◌++◌, length, take, drop, refl, sym, ap, subst, ◌∙◌, arith, length-take, length-drop}
-use Rattle.std.proofs.lemmas.List.{append-nil}
 use Rattle.std.specs.Int.{bytes_high_first}
 use Rattle.layout.specs.Fields.{number}
-use Rattle.layout.specs.Rows.{done, whole, body, Fills}
-use Rattle.layout.proofs.Filling.{fills_done, done_filled}
+use Rattle.layout.specs.Rows.{body, Fills}
+use Rattle.layout.proofs.BodyLaws.{body_fills, body_filled, body_judged}
 use Rattle.layout.proofs.Numbers.{bytes-take, number_spell}
-use Rattle.layout.proofs.RowLaws.{stays, filled, is_whole, none_begins}
-use Rattle.layout.proofs.WithinLaws.{inside, around}
-use Rattle.std.proofs.Math.Seq.{take-length}
+use Rattle.layout.proofs.RowLaws.{stays, none_begins}
 use Rattle.command_layout.specs.declared.way.Way.{Way}
 use Rattle.command_layout.specs.CommandRows.{command_rows, command_verdict}
 use Rattle.command_layout.specs.Laws.{CommandIsWhole, CommandVerdictStays, NoCommandBeginsAnother, WholeIsCommand}
@@ -16,33 +13,15 @@ use Rattle.command_layout.specs.Spelling.{IsCommand, command_of, content_of}
 use Rattle.command_layout.specs.Values.{CommandValue}
 use Rattle.command_layout.proofs.CommandFills.{command_fills, command_size, fills_command}
 
-take_all : (n : ℕ) (xs : List ℕ) → n ≤ length xs → take n (take n xs) ≡ take n xs
-take_all n xs h = let len : length (take n xs) ≡ n = omega (arith, length-take n xs) in ap (λ k. take k (take n xs)) (sym len) ∙ take-length (take n xs)
-
-body_fills : (way : Way) (v : CommandValue) (bytes : List ℕ) → IsCommand way v bytes → Fills (body (length bytes) (command_rows way (length bytes))) v bytes
-body_fills way v bytes is =
-    let rows = command_rows way (length bytes) in
-    subst (Fills (body (length bytes) rows) v) (append-nil bytes) (around rows (λ x. done x) v v bytes [] (command_fills way v bytes is) (fills_done v))
-
 pub command_whole : CommandIsWhole
 unfolding command_verdict
-command_whole way v bytes more is =
-    let n : 0 + length bytes ≡ length bytes = omega arith in
-    is_whole (body (length bytes) (command_rows way (length bytes))) 0 v bytes more (body_fills way v bytes is) ∙ ap (λ k. whole v k) n
+command_whole way v bytes more is = body_judged (command_rows way (length bytes)) v bytes more (command_fills way v bytes is)
 
 pub whole_command : WholeIsCommand
 unfolding command_verdict
 whole_command way total n v bytes p e =
-    let rows = command_rows way total in
-    let f = filled (body total rows) 0 n v bytes e in
-    let i = inside total rows (λ x. done x) v (take f.0 bytes) f.3 in
-    let end = done_filled i.0 v (drop total (take f.0 bytes)) i.3 in
-    let none = length-drop total (take f.0 bytes) in
-    let len = length-take f.0 bytes in
-    let k : f.0 ≡ total = omega (arith, ap length end.1, i.1, f.2) in
-    let same : take total (take f.0 bytes) ≡ take total bytes = ap (λ m. take total (take m bytes)) k ∙ take_all total bytes (omega (arith, f.2)) in
-    let fills = subst (Fills rows v) same (subst (λ x. Fills rows x (take total (take f.0 bytes))) end.0 i.2) in
-    (omega (arith, f.1), omega (arith, f.2), fills_command way total v (take total bytes) (bytes-take total bytes p) fills)
+    let f = body_filled (command_rows way total) total n v bytes e in
+    (f.0, f.1, fills_command way total v (take total bytes) (bytes-take total bytes p) f.2)
 
 pub command_stays : CommandVerdictStays
 unfolding command_verdict
@@ -62,4 +41,4 @@ size_same way v w a b x y p q same =
 pub none_begins_command : NoCommandBeginsAnother
 none_begins_command way v w a b x y p q same =
     let n = size_same way v w a b x y p q same in
-    none_begins (body (length a) (command_rows way (length a))) v w a b x y (body_fills way v a p) (subst (λ k. Fills (body k (command_rows way k)) w b) n (body_fills way w b q)) same
+    none_begins (body (length a) (command_rows way (length a))) v w a b x y (body_fills (command_rows way (length a)) v a (command_fills way v a p)) (subst (λ k. Fills (body k (command_rows way k)) w b) n (body_fills (command_rows way (length b)) w b (command_fills way w b q))) same

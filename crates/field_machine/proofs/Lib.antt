@@ -1,3 +1,4 @@
 pub mod Fields
 pub mod MachineSteps
+pub mod Parts
 mod ScanSteps

@@ -1,3 +1,4 @@
 pub mod Machines
+pub mod Parts
 pub mod Places
 pub mod Verdicts

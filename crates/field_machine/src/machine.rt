@@ -6,8 +6,8 @@ use crate::cursor::Cursor;
 use crate::left::Left;
 use crate::verdict::Scan;
 use avl_values::{Fault, FaultKind};
+use layout::Steps;
 use std::sync::ledger::Ledger;
-use step_count::Steps;
 
 /// Judges the bytes of a body of a known length, one at a time, and holds none of them. After each byte it answers what
 /// `scan_with` answers of all bytes so far.

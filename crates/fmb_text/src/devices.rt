@@ -1,6 +1,6 @@
 ghost use Rattle.std.specs.Prelude.{◌≡◌, ◌++◌, OnOk};
 ghost use Rattle.std.specs.List.{flat_map};
-ghost use Rattle.avl_values.specs.Viewed.{record_of, records_of};
+ghost use Rattle.avl_values.specs.Viewed.{record_of, records_viewed};
 ghost use Rattle.fmb_text.specs.Report.{count_words, device_line, device_text, record_line, record_lines};
 
 use crate::ends::word_of;
@@ -64,7 +64,7 @@ fn push_records(
     imei: &Imei,
     records: &[Rec],
 ) -> Result<(), NoMemory>
-    ensures { OnOk result (text.new.items ≡ text.old.items ++ record_lines list.now imei.now (records_of records.now)) }
+    ensures { OnOk result (text.new.items ≡ text.old.items ++ record_lines list.now imei.now (records_viewed records.now)) }
 {
     for item in records {
         push_record(alloc, text, list, imei, item.codec, item.bytes.as_slice())?;

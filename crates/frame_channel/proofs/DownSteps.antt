@@ -1,13 +1,12 @@
 -- An item down, byte by byte.
-use Rattle.std.proofs.Common.{◌≡◌, ℕ, ◌<◌, ◌==◌, inl, inr, Bool, true, false, List, [], ◌∷◌, ◌++◌, length, take, Some, None, refl, sym, ap, subst, ◌∙◌, arith, append_assoc, if◌then◌else◌}
+use Rattle.std.proofs.Common.{◌≡◌, ℕ, ◌+◌, ◌<◌, ◌==◌, inl, inr, Bool, true, false, List, [], ◌∷◌, ◌++◌, length, take, None, refl, sym, ap, subst, ◌∙◌, arith, append_assoc, if◌then◌else◌}
 use Rattle.std.proofs.Math.Seq.{take-length}
 use Rattle.std.proofs.lemmas.List.{append-nil}
 use Rattle.std.proofs.lemmas.Bool.Decides.{nat_tests}
 use Rattle.avl_values.specs.declared.fault.Fault.{Fault}
 use Rattle.avl_values.specs.declared.fault.FaultKind.{FaultKind}
 use Rattle.layout.specs.Fields.{number}
-use Rattle.layout.specs.Next.{width_of}
-use Rattle.layout.specs.Rows.{done, fault, judge, short, whole}
+use Rattle.layout.specs.Rows.{Rows, body, done, fault, judge, short, whole, within}
 use Rattle.layout.specs.MappedRows.{map_verdict}
 use Rattle.layout.proofs.Judging.{judge_done, judge_field}
 use Rattle.layout.proofs.RowLaws.{filled}
@@ -23,16 +22,22 @@ use Rattle.frame_channel.specs.BodyIn.{body_in}
 use Rattle.frame_channel.specs.DownMachines.{HasTaken, InCount, InFrame}
 use Rattle.item_streams.specs.Readers.{Reader}
 use Rattle.frame_channel.specs.DownPushes.{PushedByteDown}
-use Rattle.frame_channel.specs.FrameCursors.{frame_verdict}
+use Rattle.frame_channel.specs.FrameVerdicts.{frame_verdict}
 use Rattle.frame_channel.specs.FrameMachines as frame_machine
 use Rattle.frame_channel.specs.declared.down_item.DownItem.TheVariants.{More, Login, Count, Order, Broken}
 use Rattle.frame_channel.specs.declared.down_machine.DownMachine.{DownMachine}
 use Rattle.frame_channel.specs.declared.down_machine.DownMachine.TheVariants as machine
-use Rattle.frame_channel.specs.declared.field.Field.{Field}
+use Rattle.frame_channel.specs.CountPlaces.{SaysNumber, StandsInCount, count_leaves, count_left, four_rows}
+use Rattle.frame_channel.specs.declared.count_place.CountPlace.{CountPlace}
+use Rattle.field_machine.specs.Parts.{InPart}
+use Rattle.field_machine.specs.Verdicts.{IsVerdict}
+use Rattle.field_machine.specs.declared.machine.Machine.{Machine}
+use Rattle.field_machine.specs.declared.verdict.Scan.TheVariants as scan
+use Rattle.field_machine.proofs.Parts.{first_part, part_breaks, part_ends, part_short}
+use Rattle.layout.specs.Nested.{with_bytes}
 use Rattle.frame_channel.specs.declared.frame_machine.FrameMachine.{FrameMachine}
 use Rattle.frame_layout.specs.declared.body_kind.BodyKind.{BodyKind}
-use Rattle.frame_channel.proofs.BodySteps.{Said, says}
-use Rattle.frame_channel.proofs.FieldSteps.{Took, at_short, came}
+use Rattle.frame_channel.proofs.FrameSteps.{Said, says}
 use Rattle.frame_channel.proofs.FrameSteps as frame_steps
 
 -- the login's answer
@@ -45,9 +50,20 @@ answer_judged b =
 
 -- a count, and four zero bytes
 
-pub count_width : width_of count_rows ≡ Some 4
-unfolding count_rows
-count_width = refl
+abbrev counted : ℕ × List ℕ → Rows DownValue
+counted b = if b.0 == 0 then order_rows else done (count b.0)
+
+count_is : count_rows ≡ within 4 (with_bytes [] four_rows) counted
+unfolding count_rows within with_bytes
+count_is = refl
+
+-- what the four bytes say is their number
+four_number : (v n : ℕ) (bytes : List ℕ) → length bytes ≡ 4 → judge (body 4 four_rows) 0 bytes ≡ whole v n → number bytes ≡ v
+unfolding within
+four_number v n bytes four e =
+    let all = judge_field 4 (λ _. None) (λ field. done (number field)) 0 bytes [] four ∙ judge_done (number bytes) 4 [] in
+    let same : whole (number bytes) 4 ≡ whole v n = sym all ∙ ap (judge (body 4 four_rows) 0) (append-nil bytes) ∙ e in
+    cc
 
 behind_count : (b : Bool) (n : ℕ) (field more : List ℕ) → length field ≡ 4 → number field ≡ n → (n == 0) ≡ b → judge count_rows 0 (field ++ more) ≡ judge (if b then order_rows else done (count n)) 4 more
 unfolding count_rows
@@ -77,11 +93,14 @@ pub in_frame_judged : (after_answer : Bool) (bytes zeros more : List ℕ) → af
 in_frame_judged after_answer bytes zeros more place is four none =
     ap (down_verdict after_answer) is ∙ down_frame_judged after_answer zeros more place four none ∙ ap (λ x. map_verdict says_down_frame (frame_verdict Down x)) (sym is)
 
+abbrev in_count : (m : Machine CountPlace) (bytes : List ℕ) → InCount m bytes → InPart count_left StandsInCount count_rows four_rows counted m 0 4 bytes
+in_count m bytes h = first_part count_rows four_rows counted 4 count_left SaysNumber StandsInCount count_leaves m bytes count_is h
+
 -- what a machine has taken is short, and so has few bytes
 
 pub has_short : (m : DownMachine) (after_answer : Bool) (bytes : List ℕ) → HasTaken m after_answer bytes → down_verdict after_answer bytes ≡ short
 has_short machine.Answer after_answer bytes h = ap (down_verdict after_answer) h.1 ∙ starts_short_down after_answer
-has_short (machine.Count f) after_answer bytes h = ap (λ b. down_verdict b bytes) h.0 ∙ at_short count_rows count_rows f bytes h.1.field
+has_short (machine.Count m) after_answer bytes h = ap (λ b. down_verdict b bytes) h.0 ∙ part_short count_rows four_rows counted 4 count_left SaysNumber StandsInCount count_leaves m 0 bytes (in_count m bytes h.1)
 has_short (machine.Frame m) after_answer bytes h =
     let i = h.1 in
     in_frame_judged after_answer bytes i.zeros i.more h.0 i.is i.four i.zero ∙ ap (λ v. map_verdict says_down_frame v) (frame_steps.has_short m Down bytes i.has)
@@ -141,36 +160,35 @@ pub answer_taken : (b : ℕ) (after_answer : Bool) (bytes : List ℕ) → after_
 answer_taken b after_answer bytes place none =
     ap (λ p. down_verdict p (bytes ++ b ∷ [])) place ∙ ap (λ x. down_verdict false (x ++ b ∷ [])) none ∙ answer_judged b ∙ ap (λ x. whole (answer b) (length (x ++ b ∷ []))) (sym none)
 
-no_elements : (xs : List ℕ) → length xs ≡ 0 → xs ≡ []
-no_elements [] e = refl
-no_elements (x ∷ xs) e = absurd (omega arith)
-
-pub record FourCame (f g : Field) (bytes : List ℕ) : Type 0 where
+-- once the four bytes are there, they spell what the machine says
+record FourCame (n : ℕ) (bytes : List ℕ) : Type 0 where
   pub four : length bytes ≡ 4
-  pub number_is : number bytes ≡ g.value
+  pub number_is : number bytes ≡ n
 
-pub four_came : (f g : Field) (bytes : List ℕ) (b : ℕ) → InCount f bytes → Took f g b → g.missing ≡ 0 → FourCame f g (bytes ++ b ∷ [])
-four_came f g bytes b h t none =
-    let k = came count_rows count_rows f g bytes b h.field t none in
-    let wide : Some f.width ≡ Some 4 = sym h.field.width ∙ count_width in
-    let width : f.width ≡ 4 = cc in
-    let first : k.before ≡ [] = no_elements k.before (omega (arith, k.start, t.start, h.first)) in
-    let is : bytes ++ b ∷ [] ≡ k.field = k.is ∙ ap (λ x. x ++ k.field) first in
-    record { four = omega (arith, ap length is, k.size, t.width); number_is = ap number is ∙ k.number_is }
+four_came : (m : Machine CountPlace) (n b : ℕ) (bytes : List ℕ) → InCount m bytes → IsVerdict SaysNumber 4 (scan.Whole n) (judge (body 4 four_rows) 0 (bytes ++ b ∷ [])) → FourCame n (bytes ++ b ∷ [])
+four_came m n b bytes h is =
+    let e = part_ends count_rows four_rows counted 4 count_left SaysNumber StandsInCount count_leaves m 0 b bytes n (in_count m bytes h) is in
+    record { four = e.size; number_is = four_number e.value 4 (bytes ++ b ∷ []) e.size e.whole_part ∙ e.said }
 
-pub count_taken : (f g : Field) (n b : ℕ) (after_answer : Bool) (bytes : List ℕ) → after_answer ≡ true → InCount f bytes → Took f g b → g.missing ≡ 0 → n ≡ g.value → 0 < n
+pub count_broken : (m : Machine CountPlace) (found : Fault) (b : ℕ) (after_answer : Bool) (bytes : List ℕ) → after_answer ≡ true → InCount m bytes → IsVerdict SaysNumber 4 (scan.Broken found) (judge (body 4 four_rows) 0 (bytes ++ b ∷ []))
+    → down_verdict after_answer (bytes ++ b ∷ []) ≡ fault found.kind found.place
+count_broken m found b after_answer bytes place h is =
+    let zero : 0 + found.place ≡ found.place = omega arith in
+    ap (λ p. down_verdict p (bytes ++ b ∷ [])) place ∙ part_breaks count_rows four_rows counted 4 count_left SaysNumber StandsInCount count_leaves m 0 b bytes found (in_count m bytes h) is ∙ ap (fault found.kind) zero
+
+pub count_taken : (m : Machine CountPlace) (n b : ℕ) (after_answer : Bool) (bytes : List ℕ) → after_answer ≡ true → InCount m bytes → IsVerdict SaysNumber 4 (scan.Whole n) (judge (body 4 four_rows) 0 (bytes ++ b ∷ [])) → (n ≡ 0 → ⊥)
     → down_verdict after_answer (bytes ++ b ∷ []) ≡ whole (count n) (length (bytes ++ b ∷ []))
-count_taken f g n b after_answer bytes place h t none value some =
-    let c = four_came f g bytes b h t none in
+count_taken m n b after_answer bytes place h is some =
+    let c = four_came m n b bytes h is in
     let test : (n == 0) ≡ false = grind (arith, nat_tests) in
-    ap (λ p. down_verdict p (bytes ++ b ∷ [])) place ∙ count_judged n (bytes ++ b ∷ []) c.four (c.number_is ∙ sym value) test ∙ ap (λ k. whole (count n) k) (sym c.four)
+    ap (λ p. down_verdict p (bytes ++ b ∷ [])) place ∙ count_judged n (bytes ++ b ∷ []) c.four c.number_is test ∙ ap (λ k. whole (count n) k) (sym c.four)
 
-pub zeros_taken : (f g : Field) (n b : ℕ) (m : FrameMachine) (after_answer : Bool) (bytes : List ℕ) → after_answer ≡ true → InCount f bytes → Took f g b → g.missing ≡ 0 → n ≡ g.value → n ≡ 0
-    → ((zeros : List ℕ) → length zeros ≡ 4 → number zeros ≡ 0 → frame_machine.HasTaken m Down zeros) → HasTaken (machine.Frame m) after_answer (bytes ++ b ∷ [])
-zeros_taken f g n b m after_answer bytes place h t none value zero begins =
-    let c = four_came f g bytes b h t none in
+pub zeros_taken : (m : Machine CountPlace) (n b : ℕ) (f : FrameMachine) (after_answer : Bool) (bytes : List ℕ) → after_answer ≡ true → InCount m bytes → IsVerdict SaysNumber 4 (scan.Whole n) (judge (body 4 four_rows) 0 (bytes ++ b ∷ [])) → n ≡ 0
+    → ((zeros : List ℕ) → length zeros ≡ 4 → number zeros ≡ 0 → frame_machine.HasTaken f Down zeros) → HasTaken (machine.Frame f) after_answer (bytes ++ b ∷ [])
+zeros_taken m n b f after_answer bytes place h is zero begins =
+    let c = four_came m n b bytes h is in
     let zeros = bytes ++ b ∷ [] in
-    let nothing : number zeros ≡ 0 = c.number_is ∙ sym value ∙ zero in
+    let nothing : number zeros ≡ 0 = c.number_is ∙ zero in
     (place, record { zeros = zeros; more = []; is = sym (append-nil zeros); four = c.four; zero = nothing; has = begins zeros c.four nothing })
 
 -- what a frame is, is what the item is

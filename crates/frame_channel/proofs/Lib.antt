@@ -1,10 +1,8 @@
 pub mod BodyPlaces
-pub mod BodySteps
-pub mod BodyTakes
 pub mod DataFrames
 pub mod Digits
 pub mod DownSteps
-pub mod FieldSteps
+pub mod Exports
 pub mod FrameSteps
 pub mod LentBodies
 pub mod UpSteps

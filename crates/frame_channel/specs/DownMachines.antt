@@ -3,21 +3,22 @@ use Rattle.std.specs.Prelude.{◌≡◌, ℕ, Bool, true, false, List, [], ◌++
 use Rattle.layout.specs.Fields.{number}
 use Rattle.layout.specs.Rows.{whole, fault}
 use Rattle.command_layout.specs.declared.way.Way.TheVariants.{Down}
-use Rattle.frame_layout.specs.DownRows.{count_rows, down_verdict}
+use Rattle.frame_layout.specs.DownRows.{down_verdict}
 use Rattle.frame_layout.specs.Values.{answer, count, order}
-use Rattle.frame_channel.specs.Fields.{AtField}
+use Rattle.field_machine.specs.Machines as count_machine
+use Rattle.field_machine.specs.declared.machine.Machine.{Machine}
+use Rattle.frame_channel.specs.CountPlaces.{StandsInCount, count_left, four_rows}
 use Rattle.frame_channel.specs.FrameMachines as frame_machine
 use Rattle.frame_channel.specs.declared.down_machine.DownMachine.{DownMachine}
 use Rattle.frame_channel.specs.declared.down_machine.DownMachine.TheVariants as machine
 use Rattle.frame_channel.specs.declared.down_machine.DownStep.{DownStep}
 use Rattle.frame_channel.specs.declared.down_machine.DownStep.TheVariants as step
-use Rattle.frame_channel.specs.declared.field.Field.{Field}
+use Rattle.frame_channel.specs.declared.count_place.CountPlace.{CountPlace}
 use Rattle.frame_channel.specs.declared.frame_machine.FrameMachine.{FrameMachine}
 
 -- in the first four bytes
-pub record InCount (f : Field) (bytes : List ℕ) : Type 0 where
-  pub field : AtField count_rows count_rows f bytes
-  pub first : f.start ≡ 0
+abbrev pub InCount : Machine CountPlace → List ℕ → Type 0
+InCount m bytes = count_machine.HasTaken count_left StandsInCount m 4 four_rows bytes
 
 -- behind four zero bytes
 pub record InFrame (m : FrameMachine) (bytes : List ℕ) : Type 0 where
@@ -31,7 +32,7 @@ pub record InFrame (m : FrameMachine) (bytes : List ℕ) : Type 0 where
 -- the machine has taken these bytes of an item, and no field of them failed
 abbrev pub HasTaken : DownMachine → Bool → List ℕ → Type 0
 HasTaken machine.Answer after_answer bytes = (after_answer ≡ false) × (bytes ≡ [])
-HasTaken (machine.Count f) after_answer bytes = (after_answer ≡ true) × InCount f bytes
+HasTaken (machine.Count m) after_answer bytes = (after_answer ≡ true) × InCount m bytes
 HasTaken (machine.Frame m) after_answer bytes = (after_answer ≡ true) × InFrame m bytes
 
 -- the machine has taken some bytes

@@ -5,7 +5,8 @@ use Rattle.command_layout.specs.declared.way.Way.TheVariants.{Up}
 use Rattle.frame_layout.specs.UpRows.{up_verdict}
 use Rattle.frame_layout.specs.Values.{frame_value, login}
 use Rattle.frame_channel.specs.FrameMachines as frame_machine
-use Rattle.frame_channel.specs.LoginMachines as login_machine
+use Rattle.field_machine.specs.Machines as login_machine
+use Rattle.frame_channel.specs.LoginPlaces.{StandsInLogin, imei_rows, login_left}
 use Rattle.frame_channel.specs.declared.up_machine.UpMachine.{UpMachine}
 use Rattle.frame_channel.specs.declared.up_machine.UpMachine.TheVariants as machine
 use Rattle.frame_channel.specs.declared.up_machine.UpStep.{UpStep}
@@ -13,7 +14,7 @@ use Rattle.frame_channel.specs.declared.up_machine.UpStep.TheVariants as step
 
 -- the machine has taken these bytes of an item, and no field of them failed
 abbrev pub HasTaken : UpMachine → Bool → List ℕ → Type 0
-HasTaken (machine.Login m) after_login bytes = (after_login ≡ false) × login_machine.HasTaken m bytes
+HasTaken (machine.Login m) after_login bytes = (after_login ≡ false) × login_machine.HasTaken login_left StandsInLogin m 17 imei_rows bytes
 HasTaken (machine.Frame m) after_login bytes = (after_login ≡ true) × frame_machine.HasTaken m Up bytes
 
 -- the machine has taken some bytes

@@ -8,8 +8,8 @@ use avl_values::Fault;
 use command_layout::Way;
 use crc_field::Running;
 use frame_layout::BodyKind;
+use layout::Steps;
 use std::sync::ledger::Ledger;
-use step_count::Steps;
 
 /// A body of a known length, of which some bytes were taken.
 #[derive(Clone, Copy)]

@@ -10,10 +10,10 @@ use crate::down_item::DownItem;
 use crate::down_machine::{DownMachine, DownStep};
 use crate::known_bytes::known_bytes;
 use arrayvec::ArrayVec;
+use layout::Steps;
 use std::marker::{Brand, Model};
 use std::mem::swap;
 use std::sync::ledger::{Blank, Ledger};
-use step_count::Steps;
 
 /// A reader of a stream down: the login's answer, and then counts and frames of commands. It is seen as the bytes of its
 /// unfinished item, whether the login's answer has come, whether it has failed, and the body of the frame that was last whole. It

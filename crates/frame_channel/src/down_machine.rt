@@ -2,12 +2,13 @@
 ghost use Rattle.std.specs.Prelude.{◌≡◌, ◌+◌, Bool, List, ℕ, [], ◌∷◌, ◌++◌, false, true};
 ghost use Rattle.frame_channel.specs.DownMachines.{Answers, HasTaken, IsTaking};
 
-use crate::field::Field;
+use crate::count_place::{CountMachine, CountPlace};
 use crate::frame_machine::{FrameMachine, FrameStep};
 use avl_values::Fault;
 use command_layout::Way;
+use field_machine::Scan;
+use layout::Steps;
 use std::sync::ledger::Ledger;
-use step_count::Steps;
 
 /// Judges the bytes of an item down one at a time, and holds none of them.
 #[derive(Clone, Copy)]
@@ -15,8 +16,8 @@ pub enum DownMachine {
     /// Before the login's answer.
     Answer,
     /// In a count, or in the four zero bytes of a command's frame.
-    Count(Field),
-    /// Behind these four zero bytes.
+    Count(CountMachine),
+    /// After these four zero bytes.
     Frame(FrameMachine),
 }
 
@@ -43,7 +44,7 @@ impl DownMachine {
     pub fn count() -> DownMachine
         ensures { HasTaken result true [] }
     {
-        DownMachine::Count(Field::new(0, 4))
+        DownMachine::Count(CountMachine::new(4, CountPlace::Count))
     }
 
     /// Takes the next byte, in one step. The answer is the verdict on all bytes so far; while it is More, the machine goes on.
@@ -57,19 +58,17 @@ impl DownMachine {
                 steps.tick();
                 DownStep::Answer(byte)
             }
-            DownMachine::Count(field) => {
-                steps.tick();
-                match field.push(byte) {
-                    None => DownStep::More,
-                    Some(count) => {
-                        if count > 0 {
-                            return DownStep::Count(count);
-                        }
-                        *self = DownMachine::Frame(FrameMachine::behind_zeros(Way::Down));
-                        DownStep::More
+            DownMachine::Count(count) => match count.push(byte, steps) {
+                Scan::More => DownStep::More,
+                Scan::Whole(number) => {
+                    if number > 0 {
+                        return DownStep::Count(number);
                     }
+                    *self = DownMachine::Frame(FrameMachine::after_zeros(Way::Down));
+                    DownStep::More
                 }
-            }
+                Scan::Broken(found) => DownStep::Broken(found),
+            },
             DownMachine::Frame(frame) => match frame.push(byte, steps) {
                 FrameStep::More => DownStep::More,
                 FrameStep::Whole(_) => DownStep::Order,

@@ -1,26 +1,26 @@
 //! A frame, judged byte by byte. Both ways have the same frames, with other bodies.
-ghost use Rattle.std.specs.Prelude.{◌≡◌, ◌+◌, ℕ, List, [], ◌∷◌, ◌++◌, length};
+ghost use Rattle.std.specs.Prelude.{◌≡◌, ◌+◌, ◌<◌, ◌^◌, ℕ, List, [], ◌∷◌, ◌++◌, length};
 ghost use Rattle.layout.specs.Fields.{number};
+ghost use Rattle.avl_values.specs.declared.fault.Fault.{Fault};
 ghost use Rattle.command_layout.specs.declared.way.Way.{Way};
-ghost use Rattle.frame_channel.specs.FrameMachines.{Answers, AtCursor, FieldAnswers, HasTaken, IsTaking};
-ghost use Rattle.frame_channel.specs.declared.frame_machine.FrameMachine.TheVariants as frame;
+ghost use Rattle.frame_channel.specs.FrameMachines.{Answers, HasTaken, IsTaking};
 
 use crate::body_reader::{BodyReader, BodyStep};
-use crate::field::Field;
-use crate::frame_cursor::{FrameCursor, FrameNext};
+use crate::frame_place::{FramePart, FramePlace, PartMachine};
 use avl_values::Fault;
 use command_layout::Way;
+use field_machine::Scan;
 use frame_layout::BodyKind;
+use layout::Steps;
 use std::sync::ledger::Ledger;
-use step_count::Steps;
 
 /// Judges the bytes of a frame one at a time, and holds none of them.
 #[derive(Clone, Copy)]
 pub enum FrameMachine {
-    /// In a field outside of the body.
-    Field(FrameCursor, Field),
-    /// In the body.
-    Body(BodyReader),
+    /// In the fields before the body of a frame of this way, or in those after it. They begin at this place.
+    Fields(Way, u32, PartMachine),
+    /// In the body of a frame of this way.
+    Body(Way, BodyReader),
 }
 
 /// What the bytes of a frame so far are.
@@ -34,12 +34,15 @@ pub enum FrameStep {
     Broken(Fault),
 }
 
-/// What a byte of a field brings: the machine goes on, or the frame is decided.
-#[derive(Clone, Copy)]
-pub enum FieldStep {
-    On(FrameMachine),
-    Whole(BodyKind),
-    Broken(Fault),
+/// A fault of a part of a frame that begins at this place.
+fn in_frame(start: u32, found: Fault) -> Fault
+    requires { start + found.place < 2 ^ 32 }
+    ensures { result ≡ record { kind = found.kind; place = start + found.place } }
+{
+    Fault {
+        kind: found.kind,
+        place: start + found.place,
+    }
 }
 
 impl FrameMachine {
@@ -47,14 +50,14 @@ impl FrameMachine {
     pub fn new(way: Way) -> FrameMachine
         ensures { HasTaken result way [] }
     {
-        FrameMachine::Field(FrameCursor::Preamble(way), Field::new(0, 4))
+        FrameMachine::Fields(way, 0, PartMachine::new(8, FramePlace::Preamble(way)))
     }
 
-    /// A machine behind the four zero bytes of a frame of this way.
-    pub fn behind_zeros(way: Way) -> FrameMachine
+    /// A machine after the four zero bytes of a frame of this way.
+    pub fn after_zeros(way: Way) -> FrameMachine
         ensures { (zeros : List ℕ) → length zeros ≡ 4 → number zeros ≡ 0 → HasTaken result way zeros }
     {
-        FrameMachine::Field(FrameCursor::Length(way), Field::new(4, 4))
+        FrameMachine::Fields(way, 4, PartMachine::new(4, FramePlace::Length(way)))
     }
 
     /// Takes the next byte, in one step. The answer is the verdict on all bytes so far; while it is More, the machine goes on.
@@ -64,52 +67,25 @@ impl FrameMachine {
         ensures step { steps.new ≡ steps.old + 1 }
     {
         match self {
-            FrameMachine::Field(cursor, field) => {
-                steps.tick();
-                match push_field(*cursor, *field, byte) {
-                    FieldStep::On(machine) => {
-                        *self = machine;
-                        FrameStep::More
-                    }
-                    FieldStep::Whole(kind) => FrameStep::Whole(kind),
-                    FieldStep::Broken(found) => FrameStep::Broken(found),
+            FrameMachine::Fields(way, start, fields) => match fields.push(byte, steps) {
+                Scan::More => FrameStep::More,
+                Scan::Whole(FramePart::Body(total)) => {
+                    let body = BodyReader::new(*start + fields.taken(), total, *way);
+                    *self = FrameMachine::Body(*way, body);
+                    FrameStep::More
                 }
-            }
-            FrameMachine::Body(reader) => match reader.push(byte, steps) {
+                Scan::Whole(FramePart::Whole(kind)) => FrameStep::Whole(kind),
+                Scan::Broken(found) => FrameStep::Broken(in_frame(*start, found)),
+            },
+            FrameMachine::Body(way, reader) => match reader.push(byte, steps) {
                 BodyStep::More => FrameStep::More,
                 BodyStep::Whole(kind, crc, end) => {
-                    *self = FrameMachine::Field(
-                        FrameCursor::CrcHigh(kind, crc),
-                        Field::new(end, 2),
-                    );
+                    let check = PartMachine::new(4, FramePlace::CrcHigh(kind, crc));
+                    *self = FrameMachine::Fields(*way, end, check);
                     FrameStep::More
                 }
                 BodyStep::Broken(found) => FrameStep::Broken(found),
             },
         }
-    }
-}
-
-// A byte of a field outside of the body.
-fn push_field(cursor: FrameCursor, field: Field, byte: u8) -> FieldStep
-    requires { IsTaking (frame.Field cursor field) }
-    ensures { (way : Way) (bytes : List ℕ) → AtCursor way cursor field bytes → FieldAnswers way (bytes ++ byte ∷ []) result }
-{
-    let mut field = field;
-    match field.push(byte) {
-        None => FieldStep::On(FrameMachine::Field(cursor, field)),
-        Some(value) => match cursor.next(value) {
-            FrameNext::Field(next) => {
-                FieldStep::On(FrameMachine::Field(next, Field::new(field.end(), next.width())))
-            }
-            FrameNext::Body(way, total) => {
-                FieldStep::On(FrameMachine::Body(BodyReader::new(field.end(), total, way)))
-            }
-            FrameNext::Whole(kind) => FieldStep::Whole(kind),
-            FrameNext::Fault(kind) => FieldStep::Broken(Fault {
-                kind,
-                place: field.start(),
-            }),
-        },
     }
 }

@@ -5,15 +5,15 @@
 
 mod body_place;
 mod body_reader;
+mod count_place;
 mod data_frame;
 mod down;
 mod down_item;
 mod down_machine;
-mod field;
-mod frame_cursor;
 mod frame_machine;
+mod frame_place;
 mod known_bytes;
-mod login_machine;
+mod login_place;
 mod up;
 mod up_item;
 mod up_machine;

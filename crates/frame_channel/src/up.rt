@@ -12,12 +12,12 @@ use crate::known_bytes::known_bytes;
 use crate::up_item::{UpItem, of_frame};
 use crate::up_machine::{UpMachine, UpStep};
 use avl_values::NoMemory;
+use layout::Steps;
 use record_layout::PacketHead;
 use std::alloc::Global;
 use std::marker::{Brand, Model};
 use std::mem::swap;
 use std::sync::ledger::{Blank, Ledger};
-use step_count::Steps;
 
 // The bytes of the longest frame: eight, a body of 65,535, and four.
 const LONGEST: usize = 65_547;

@@ -3,12 +3,13 @@ ghost use Rattle.std.specs.Prelude.{◌≡◌, ◌+◌, Bool, List, ℕ, [], ◌
 ghost use Rattle.frame_channel.specs.UpMachines.{Answers, HasTaken, IsTaking};
 
 use crate::frame_machine::{FrameMachine, FrameStep};
-use crate::login_machine::{LoginMachine, LoginStep};
+use crate::login_place::{LoginMachine, LoginPlace};
 use avl_values::{Fault, Imei};
 use command_layout::Way;
+use field_machine::Scan;
 use frame_layout::BodyKind;
+use layout::Steps;
 use std::sync::ledger::Ledger;
-use step_count::Steps;
 
 /// Judges the bytes of an item up one at a time, and holds none of them.
 #[derive(Clone, Copy)]
@@ -32,7 +33,7 @@ impl UpMachine {
     pub fn login() -> UpMachine
         ensures { HasTaken result false [] }
     {
-        UpMachine::Login(LoginMachine::new())
+        UpMachine::Login(LoginMachine::new(17, LoginPlace::Length))
     }
 
     /// A machine before a frame.
@@ -49,17 +50,11 @@ impl UpMachine {
         ensures step { steps.new ≡ steps.old + 1 }
     {
         match self {
-            UpMachine::Login(login) => {
-                steps.tick();
-                match login.push(byte) {
-                    LoginStep::On(machine) => {
-                        *self = UpMachine::Login(machine);
-                        UpStep::More
-                    }
-                    LoginStep::Login(imei) => UpStep::Login(imei),
-                    LoginStep::Broken(found) => UpStep::Broken(found),
-                }
-            }
+            UpMachine::Login(login) => match login.push(byte, steps) {
+                Scan::More => UpStep::More,
+                Scan::Whole(imei) => UpStep::Login(imei),
+                Scan::Broken(found) => UpStep::Broken(found),
+            },
             UpMachine::Frame(frame) => match frame.push(byte, steps) {
                 FrameStep::More => UpStep::More,
                 FrameStep::Whole(kind) => UpStep::Frame(kind),

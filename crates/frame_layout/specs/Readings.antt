@@ -55,9 +55,9 @@ packets_of items = flat_map (λ item. packet_in item.value) items
 abbrev pub responses_of : List (Item UpValue) → List (List ℕ)
 responses_of items = flat_map (λ item. response_in item.value) items
 
--- the counts
-abbrev pub counts_of : List (Item DownValue) → List ℕ
-counts_of items = flat_map (λ item. count_in item.value) items
+-- the counts that were read
+abbrev pub counts_read : List (Item DownValue) → List ℕ
+counts_read items = flat_map (λ item. count_in item.value) items
 
 -- the bodies of the commands
 abbrev pub orders_of : List (Item DownValue) → List (List ℕ)

@@ -12,6 +12,7 @@ ghost use Rattle.frame_layout.specs.declared.body_kind.BodyKind.{BodyKind};
 use arrayvec::ArrayVec;
 use avl_values::Imei;
 use crc_field::crc;
+use layout::put_all;
 
 /// Writes the frame of a data body, or of a command's body of one of the two ways, over what stood in `out`: four zero bytes,
 /// the body's length, the body, and its checksum. The body has at most 1,268 bytes.
@@ -24,11 +25,11 @@ pub fn write_frame(body: &[u8], out: &mut ArrayVec<u8, 1280>)
     ensures order { (value : CommandValue) → IsCommand Down value body.now → IsDownItem true (order body.now) out.new.items }
 {
     out.clear();
-    let _preamble = out.try_extend_from_slice(&[0; 4]);
-    let _length = out.try_extend_from_slice(&(body.len() as u32).to_be_bytes());
-    let _body = out.try_extend_from_slice(body);
-    let _high = out.try_extend_from_slice(&[0; 2]);
-    let _low = out.try_extend_from_slice(&crc(body).to_be_bytes());
+    put_all(out, &[0; 4]);
+    put_all(out, &(body.len() as u32).to_be_bytes());
+    put_all(out, body);
+    put_all(out, &[0; 2]);
+    put_all(out, &crc(body).to_be_bytes());
 }
 
 /// The login of a device: the length 15 in two bytes, and the 15 digits.

@@ -1,4 +1,6 @@
+pub mod BodyLaws
 pub mod EitherLaws
+pub mod Exports
 pub mod FaultPlaces
 pub mod Filling
 pub mod Following

@@ -4,8 +4,8 @@ ghost use Rattle.std.specs.Prelude.{◌≡◌, ◌<◌, ◌+◌, ℕ, List, [], 
 use crate::place::PacketPlace;
 use crate::scanning::Scan;
 use field_machine::Machine;
+use layout::Steps;
 use std::sync::ledger::Ledger;
-use step_count::Steps;
 
 /// Judges the bytes of a body of a known length, one at a time, and holds none of them. After each byte it answers what
 /// `scan` answers of all bytes so far.

@@ -3,12 +3,12 @@ ghost use Rattle.std.specs.Prelude.{◌≡◌, ◌+◌, ◌<◌, length};
 
 use crate::{PacketHead, RecordMachine, Scan, is_record, read_packet, records, scan, view};
 use avl_values::{Codec, Fault, FaultKind, Gps, Io, Width};
+use layout::Steps;
 use std::marker::Brand;
 use std::mem::size_of;
 use std::process::Abort;
 use std::sync::ledger::{Blank, Ledger};
 use std::test::Fail;
-use step_count::Steps;
 
 /// The body of Teltonika's first example of Codec 8.
 const CODEC_8: [u8; 54] = [

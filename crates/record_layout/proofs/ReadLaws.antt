@@ -1,15 +1,13 @@
 -- The laws of data bodies.
-use Rattle.std.proofs.Common.{◌≡◌, ℕ, suc, ◌+◌, ◌≤◌, List, [], ◌∷◌, ◌++◌, length, take, drop, map, Some, refl, sym, ap, subst, ◌∙◌, arith, append_assoc, length-take, length-drop}
+use Rattle.std.proofs.Common.{◌≡◌, ℕ, suc, ◌+◌, ◌≤◌, List, [], ◌∷◌, ◌++◌, length, take, drop, map, Some, refl, sym, ap, subst, ◌∙◌, arith, append_assoc}
 use Rattle.std.specs.List.{flat_map, AllByRecursion}
-use Rattle.std.proofs.Math.Seq.{take-append_seam, drop-append_seam, take-length}
-use Rattle.std.proofs.lemmas.List.{append-nil}
+use Rattle.std.proofs.Math.Seq.{take-append_seam, drop-append_seam}
 use Rattle.avl_values.specs.Record.{Record}
 use Rattle.avl_values.specs.declared.codec.Codec.{Codec}
-use Rattle.layout.specs.Rows.{done, whole, body, Fills}
-use Rattle.layout.proofs.Filling.{fills_done, done_filled}
+use Rattle.layout.specs.Rows.{whole, body, Fills}
+use Rattle.layout.proofs.BodyLaws.{body_filled, body_judged}
 use Rattle.layout.proofs.Numbers.{bytes-take}
-use Rattle.layout.proofs.RowLaws.{stays, filled, is_whole, none_begins}
-use Rattle.layout.proofs.WithinLaws.{inside, around}
+use Rattle.layout.proofs.RowLaws.{stays, is_whole, none_begins}
 use Rattle.record_layout.specs.declared.head.PacketHead.{PacketHead}
 use Rattle.record_layout.specs.Laws.{WholeIsPacket, PacketIsWhole, PacketVerdictStays, NoPacketBeginsAnother, RecordsAreRead}
 use Rattle.record_layout.specs.PacketRows.{packet_rows, packet_verdict}
@@ -21,27 +19,13 @@ use Rattle.record_layout.proofs.RecordFills.{lone_fill}
 
 -- Verdicts on a body.
 
-take-all : (n : ℕ) (xs : List ℕ) → n ≤ length xs → take n (take n xs) ≡ take n xs
-take-all n xs h = let len : length (take n xs) ≡ n = omega (arith, length-take n xs) in ap (λ k. take k (take n xs)) (sym len) ∙ take-length (take n xs)
-
 pub packet_filled : (total n : ℕ) (head : PacketHead) (bytes : List ℕ) → packet_verdict total bytes ≡ whole head n → (n ≡ total) × (total ≤ length bytes) × Fills packet_rows head (take total bytes)
 unfolding packet_verdict
-packet_filled total n head bytes e =
-    let f = filled (body total packet_rows) 0 n head bytes e in
-    let i = inside total packet_rows (λ v. done v) head (take f.0 bytes) f.3 in
-    let end = done_filled i.0 head (drop total (take f.0 bytes)) i.3 in
-    let none = length-drop total (take f.0 bytes) in
-    let len = length-take f.0 bytes in
-    let k : f.0 ≡ total = omega (arith, ap length end.1, i.1, f.2) in
-    let same : take total (take f.0 bytes) ≡ take total bytes = ap (λ m. take total (take m bytes)) k ∙ take-all total bytes (omega (arith, f.2)) in
-    (omega (arith, f.1), omega (arith, f.2), subst (Fills packet_rows head) same (subst (λ v. Fills packet_rows v (take total (take f.0 bytes))) end.0 i.2))
+packet_filled total n head bytes e = body_filled packet_rows total n head bytes e
 
 pub packet_whole : (head : PacketHead) (bytes more : List ℕ) → Fills packet_rows head bytes → packet_verdict (length bytes) (bytes ++ more) ≡ whole head (length bytes)
 unfolding packet_verdict
-packet_whole head bytes more fills =
-    let f = subst (Fills (body (length bytes) packet_rows) head) (append-nil bytes) (around packet_rows (λ v. done v) head head bytes [] fills (fills_done head)) in
-    let n : 0 + length bytes ≡ length bytes = omega arith in
-    is_whole (body (length bytes) packet_rows) 0 head bytes more f ∙ ap (λ k. whole head k) n
+packet_whole head bytes more fills = body_judged packet_rows head bytes more fills
 
 pub whole_packet : WholeIsPacket
 whole_packet total n head bytes p e =

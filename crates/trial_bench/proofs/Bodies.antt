@@ -8,7 +8,7 @@ use Rattle.std.proofs.lemmas.List.{append-nil, length-append, length-map, take_a
 use Rattle.std.proofs.lemmas.Nat.{from_be_bytes-to_be_bytes_4}
 use Rattle.std.proofs.lemmas.Slice.Eq.{bytes_eq-Decides}
 use Rattle.avl_values.specs.Record.{Record}
-use Rattle.avl_values.specs.Viewed.{record_of, records_of}
+use Rattle.avl_values.specs.Viewed.{record_of, records_viewed}
 use Rattle.avl_values.specs.declared.codec.Codec.{Codec}
 use Rattle.avl_values.specs.declared.codec.Codec.TheVariants.{C8}
 use Rattle.avl_values.specs.declared.fault.FaultKind.{FaultKind}
@@ -40,13 +40,13 @@ body_is records =
     ap (λ n. F n (flat_map (λ (r : List ℕ). r) (bytes_of_each records))) (length-map records (λ r. r.bytes)) ∙ ap (F (length records)) (each_joined records)
 
 -- a body that is written record by record
-pub written : (recs : List Rec) (k n : ℕ) (body out : List ℕ) → length recs ≤ k → n ≡ length recs → body ≡ 8 ∷ length recs ∷ flat_map (λ r. r.bytes) (records_of (take k recs)) → out ≡ body ++ n ∷ []
-    → out ≡ body_of (records_of recs)
+pub written : (recs : List Rec) (k n : ℕ) (body out : List ℕ) → length recs ≤ k → n ≡ length recs → body ≡ 8 ∷ length recs ∷ flat_map (λ r. r.bytes) (records_viewed (take k recs)) → out ≡ body ++ n ∷ []
+    → out ≡ body_of (records_viewed recs)
 written recs k n body out all count before is =
-    let F : ℕ → List Rec → List ℕ = λ m xs. 8 ∷ m ∷ (flat_map (λ r. r.bytes) (records_of xs) ++ m ∷ []) in
-    let same : length (records_of recs) ≡ length recs = length-map recs record_of in
-    is ∙ (ap (λ b. b ++ n ∷ []) before ∙ (ap (λ m. 8 ∷ length recs ∷ (flat_map (λ r. r.bytes) (records_of (take k recs)) ++ m ∷ [])) count
-    ∙ (ap (F (length recs)) (take_all k recs all) ∙ (ap (λ m. F m recs) (sym same) ∙ sym (body_is (records_of recs))))))
+    let F : ℕ → List Rec → List ℕ = λ m xs. 8 ∷ m ∷ (flat_map (λ r. r.bytes) (records_viewed xs) ++ m ∷ []) in
+    let same : length (records_viewed recs) ≡ length recs = length-map recs record_of in
+    is ∙ (ap (λ b. b ++ n ∷ []) before ∙ (ap (λ m. 8 ∷ length recs ∷ (flat_map (λ r. r.bytes) (records_viewed (take k recs)) ++ m ∷ [])) count
+    ∙ (ap (F (length recs)) (take_all k recs all) ∙ (ap (λ m. F m recs) (sym same) ∙ sym (body_is (records_viewed recs))))))
 
 joined_length : (records : List Record) → ArePlain records → length (flat_map (λ r. r.bytes) records) ≡ 30 * length records
 joined_length [] h = refl

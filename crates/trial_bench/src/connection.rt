@@ -4,7 +4,7 @@ ghost use Rattle.frame_layout.specs.Items.{frame_of, login_of};
 ghost use Rattle.trial_model.specs.RecordLists.{add_once};
 ghost use Rattle.trial_bench.specs.PlainConnection.{connection_of};
 ghost use Rattle.trial_bench.specs.PlainFrame.{ArePlain, body_of};
-ghost use Rattle.avl_values.specs.Viewed.{records_of};
+ghost use Rattle.avl_values.specs.Viewed.{records_viewed};
 ghost use Rattle.std.specs.Int.{to_be_bytes, w32};
 
 use crate::frame::{write_login, write_packet};
@@ -98,11 +98,11 @@ fn report(
     recs: &[Rec],
     archive: &mut WideList,
 ) -> Result<(Vec<u8>, Option<u8>), NoMemory>
-    requires some { 0 < length (records_of recs.now) }
-    requires plain { ArePlain (records_of recs.now) }
-    requires few { length (records_of recs.now) ≤ 255 }
-    ensures told { IfOk result (λ p. (p.0.items ≡ frame_of (body_of (records_of recs.now))) × (p.1 ≡ Some (length (records_of recs.now)))) }
-    ensures archived { OnOk result (archive.new ≡ fold add_once archive.old (records_of recs.now)) }
+    requires some { 0 < length (records_viewed recs.now) }
+    requires plain { ArePlain (records_viewed recs.now) }
+    requires few { length (records_viewed recs.now) ≤ 255 }
+    ensures told { IfOk result (λ p. (p.0.items ≡ frame_of (body_of (records_viewed recs.now))) × (p.1 ≡ Some (length (records_viewed recs.now)))) }
+    ensures archived { OnOk result (archive.new ≡ fold add_once archive.old (records_viewed recs.now)) }
 {
     let frame = write_packet(alloc, recs)?;
     let counted = take_frame(alloc, archive, &frame)?;

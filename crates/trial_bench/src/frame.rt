@@ -1,5 +1,5 @@
 ghost use Rattle.std.specs.Prelude.{◌≡◌, ◌^◌, ◌<◌, ◌≤◌, length, IfOk};
-ghost use Rattle.avl_values.specs.Viewed.{records_of};
+ghost use Rattle.avl_values.specs.Viewed.{records_viewed};
 ghost use Rattle.trial_bench.specs.PlainFrame.{ArePlain, body_of};
 ghost use Rattle.frame_layout.specs.Items.{frame_of, login_of};
 ghost use Rattle.trial_model.specs.Frames.{body_at};
@@ -21,7 +21,7 @@ pub fn write_login(alloc: Global, imei: Imei) -> Result<Vec<u8>, NoMemory>
 /// The body of a packet of Codec 8: the codec id, the number of records, the records, and the number once more.
 pub fn write_body(alloc: Global, recs: &[Rec]) -> Result<Vec<u8>, NoMemory>
     requires { length recs.now ≤ 255 }
-    ensures { IfOk result (λ body. body.items ≡ body_of (records_of recs.now)) }
+    ensures { IfOk result (λ body. body.items ≡ body_of (records_viewed recs.now)) }
 {
     let count = recs.len() as u8;
     let mut body = Vec::new(alloc);
@@ -49,9 +49,9 @@ pub fn write_frame(alloc: Global, body: &[u8]) -> Result<Vec<u8>, NoMemory>
 
 /// The frame of a packet of these records.
 pub fn write_packet(alloc: Global, recs: &[Rec]) -> Result<Vec<u8>, NoMemory>
-    requires plain { ArePlain (records_of recs.now) }
+    requires plain { ArePlain (records_viewed recs.now) }
     requires few { length recs.now ≤ 255 }
-    ensures { IfOk result (λ frame. frame.items ≡ frame_of (body_of (records_of recs.now))) }
+    ensures { IfOk result (λ frame. frame.items ≡ frame_of (body_of (records_viewed recs.now))) }
 {
     let body = write_body(alloc, recs)?;
     write_frame(alloc, &body)

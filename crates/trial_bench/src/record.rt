@@ -1,6 +1,6 @@
 ghost use Rattle.std.specs.Prelude.{◌≡◌, OnOk};
 ghost use Rattle.avl_values.specs.Codec.{is_codec};
-ghost use Rattle.avl_values.specs.Viewed.{record_of, records_of};
+ghost use Rattle.avl_values.specs.Viewed.{record_of, records_viewed};
 ghost use Rattle.record_lists.specs.SameRecord.{is_same};
 ghost use Rattle.trial_model.specs.RecordLists.{add_once, is_listed};
 
@@ -18,7 +18,7 @@ pub fn add_once(list: &mut RecList, rec: &Rec) -> Result<(), NoMemory>
 }
 
 fn is_listed(recs: &[Rec], rec: &Rec) -> bool
-    ensures { result ≡ is_listed (records_of recs.now) (record_of rec.now) }
+    ensures { result ≡ is_listed (records_viewed recs.now) (record_of rec.now) }
 {
     for other in recs {
         if is_same(

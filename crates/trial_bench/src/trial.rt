@@ -1,7 +1,7 @@
 ghost use Rattle.std.specs.Prelude.{◌≡◌, ◌≤◌, [], length, IsOk, IfOk, IfErr, OnOk, Ok};
 ghost use Rattle.trial_model.specs.Kept.{Kept};
 ghost use Rattle.trial_model.specs.Script.{Script};
-ghost use Rattle.avl_values.specs.Viewed.{records_of};
+ghost use Rattle.avl_values.specs.Viewed.{records_viewed};
 ghost use Rattle.trial_model.specs.RecordLists.{first_places};
 ghost use Rattle.trial_bench.specs.PlainOutcome.{made_by, outcome_of, with_connection, without_connection};
 ghost use Rattle.trial_bench.specs.PlainFrame.{ArePlain};
@@ -123,7 +123,7 @@ fn device_outcome(
 
 // The records, each at its first place only.
 fn each_once(alloc: Global, recs: &[Rec]) -> Result<RecList, NoMemory>
-    ensures { IfOk result (λ once. once ≡ first_places (records_of recs.now)) }
+    ensures { IfOk result (λ once. once ≡ first_places (records_viewed recs.now)) }
 {
     let mut once = RecList::new(alloc);
     for rec in recs {

@@ -5,12 +5,12 @@ use avl_values::{Codec, Fault, FaultKind, Imei};
 use crc_field::crc;
 use frame_channel::{Down, DownItem, Up, UpItem, write_frame, write_login};
 use hex::decode;
+use layout::Steps;
 use record_codecs::{PacketHead, read_packet};
 use std::alloc::{AllocError, Global};
 use std::marker::Brand;
 use std::sync::ledger::{Blank, Ledger};
 use std::test::Fail;
-use step_count::Steps;
 
 /// Teltonika's example of Codec 8, a frame of one record.
 const CODEC_8: &str =

@@ -1,72 +1,54 @@
-use Rattle.std.proofs.Common.{◌≡◌, ◌+◌, [], ◌∷◌, ◌++◌, length, sym, ap, subst, ◌∙◌, arith, append_assoc, length-append}
+use Rattle.std.proofs.Common.{◌≡◌, [], ◌∷◌, ◌++◌, refl, sym, ap, ◌∙◌, arith}
 use Rattle.crc_field.specs.Crc.{crc_of}
-use Rattle.layout.specs.Rows.{fault, judge, whole}
-use Rattle.frame_layout.specs.FrameBodies.{body_kind_rows, body_verdict}
+use Rattle.frame_layout.specs.FrameBodies.{body_kind_rows}
 use Rattle.frame_layout.specs.FrameRows.{crc_rows}
-use Rattle.frame_channel.specs.Fields.{Leaves}
-use Rattle.frame_channel.specs.FrameCursors.{way_rows}
+use Rattle.field_machine.proofs.Parts.{left_as, part_breaks, part_ends, part_on, part_place, part_start}
+use Rattle.frame_channel.specs.Bodies.{checked}
+use Rattle.frame_channel.specs.BodyLaws.{body_leaves}
+use Rattle.frame_channel.specs.BodyPlaces.{SaysKind, StandsAt, left_in}
+use Rattle.frame_channel.specs.FrameVerdicts.{way_rows}
 use Rattle.frame_channel.specs.declared.frame_machine.FrameMachine.TheVariants as machine
-use Rattle.frame_channel.proofs.BodySteps.{body_broken, body_fault_place, body_whole_leaves, says, whole_size}
-use Rattle.frame_channel.proofs.BodyTakes.{broken_is, taken_below, whole_is}
-use Rattle.frame_channel.proofs.FieldSteps.{leaves_as}
-use Rattle.frame_channel.proofs.FrameSteps.{has_few, longest}
+use Rattle.frame_channel.proofs.FrameSteps.{has_few, says}
 use Rattle.frame_channel.proofs.body_reader.BodyReader.push.Goals as goal
 
 pub overflow_add-result : goal.overflow_add-result
 overflow_add-result g c =
+    let r = c.args.self.now in
     let h = c.requires.has in
-    let few = has_few (machine.Body c.args.self.now) c.requires.way c.requires.bytes h in
-    omega (arith, h.start, h.few, longest c.requires.way, ap length h.is, length-append h.before h.taken)
+    let few = has_few (machine.Body c.requires.way r) c.requires.way c.requires.bytes (refl, h) in
+    omega (arith, h.few, part_start (way_rows c.requires.way) (body_kind_rows c.requires.way r.total) checked r.total left_in SaysKind StandsAt body_leaves r.machine r.start c.requires.bytes h.part)
 
 pub overflow_add-result-in-Broken : goal.overflow_add-result-in-Broken
 overflow_add-result-in-Broken g c =
+    let r = c.args.self.now in
+    let way = c.requires.way in
     let h = c.requires.has in
-    let b = c.args.byte in
-    let few = has_few (machine.Body c.args.self.now) c.requires.way c.requires.bytes h in
-    let total = c.args.self.now.total in
-    let e = broken_is c.requires.way total (h.taken ++ b ∷ []) c.in-Broken.found (c.in-Broken.ensures.answers total (body_kind_rows c.requires.way total) h.taken h.has) in
-    let place = body_fault_place c.requires.way c.args.self.now.total (h.taken ++ b ∷ []) c.in-Broken.found.kind c.in-Broken.found.place e in
-    omega (arith, h.start, ap length h.is, length-append h.before h.taken, length-append h.taken (b ∷ []))
+    let rows = body_kind_rows way r.total in
+    let few = has_few (machine.Body way r) way c.requires.bytes (refl, h) in
+    let e = c.in-Broken.ensures.answers r.total rows h.part.taken h.part.has in
+    omega (arith, part_place (way_rows way) rows checked r.total left_in SaysKind StandsAt body_leaves r.machine r.start c.args.byte c.requires.bytes c.in-Broken.found h.part e)
 
 pub returns-in-More-clause-answers : goal.returns-in-More-clause-answers
 returns-in-More-clause-answers g c way bytes h =
-    let b = c.args.byte in
-    record {
-      before = h.before;
-      taken = h.taken ++ b ∷ [];
-      is = ap (λ x. x ++ b ∷ []) h.is ∙ append_assoc h.before h.taken (b ∷ []);
-      start = h.start;
-      left = h.left;
-      few = h.few;
-      has = c.in-More.ensures.goes_on c.args.self.now.total (body_kind_rows way c.args.self.now.total) h.taken h.has;
-      crc = c.push.ensures.pushed h.taken h.crc;
-    }
+    let r = c.args.self.now in
+    let rows = body_kind_rows way r.total in
+    let has = c.in-More.ensures.goes_on r.total rows h.part.taken h.part.has in
+    record { part = part_on (way_rows way) rows checked r.total left_in SaysKind StandsAt body_leaves r.machine _ r.start c.args.byte bytes h.part has; few = h.few; crc = c.push.ensures.pushed h.part.taken h.crc }
 
 pub returns-in-Whole-clause-answers : goal.returns-in-Whole-clause-answers
 returns-in-Whole-clause-answers g c way bytes h =
-    let b = c.args.byte in
-    let all = way_rows way in
-    let total = c.args.self.now.total in
+    let r = c.args.self.now in
+    let rows = body_kind_rows way r.total in
     let kind = c.in-Whole.kind in
-    let taken = h.taken ++ b ∷ [] in
-    let now = bytes ++ b ∷ [] in
-    let e : body_verdict way total taken ≡ whole kind total = whole_is way total taken kind (c.in-Whole.ensures.answers total (body_kind_rows way total) h.taken h.has) in
-    let below = taken_below c.args.self.now.machine way total h.taken h.has in
-    let above = whole_size way total total kind taken e in
-    let size : length taken ≡ total = omega (arith, length-append h.taken (b ∷ [])) in
-    let joined : h.before ++ taken ≡ now = sym (ap (λ x. x ++ b ∷ []) h.is ∙ append_assoc h.before h.taken (b ∷ [])) in
-    let crc : crc_of taken ≡ c.value.result = sym (c.value.ensures ∙ c.push.ensures.pushed h.taken h.crc) in
-    let left : Leaves all now (crc_rows (says kind taken) (crc_of taken)) = subst (λ x. Leaves all x (crc_rows (says kind taken) (crc_of taken))) joined (body_whole_leaves all way h.before taken total kind h.left e size) in
-    let place : c.args.self.now.start + total ≡ length now = ap (λ k. k + total) h.start ∙ ap (λ k. length h.before + k) (sym size) ∙ sym (length-append h.before taken) ∙ ap length joined in
-    (place, (taken, leaves_as all now (crc_rows (says kind taken) (crc_of taken)) (crc_rows (says kind taken) c.value.result) (ap (λ k. crc_rows (says kind taken) k) crc) left))
+    let taken = h.part.taken ++ c.args.byte ∷ [] in
+    let now = bytes ++ c.args.byte ∷ [] in
+    let e = part_ends (way_rows way) rows checked r.total left_in SaysKind StandsAt body_leaves r.machine r.start c.args.byte bytes kind h.part (c.in-Whole.ensures.answers r.total rows h.part.taken h.part.has) in
+    let crc : crc_of taken ≡ c.value.result = sym (c.value.ensures ∙ c.push.ensures.pushed h.part.taken h.crc) in
+    let same : crc_rows (says e.value taken) (crc_of taken) ≡ crc_rows (says kind taken) c.value.result = ap (λ k. crc_rows (says k taken) (crc_of taken)) e.said ∙ ap (λ k. crc_rows (says kind taken) k) crc in
+    (e.place, (taken, left_as (way_rows way) now (crc_rows (says e.value taken) (crc_of taken)) (crc_rows (says kind taken) c.value.result) same e.left))
 
 pub returns-in-Broken-clause-answers : goal.returns-in-Broken-clause-answers
 returns-in-Broken-clause-answers g c way bytes h =
-    let b = c.args.byte in
-    let total = c.args.self.now.total in
-    let kind = c.in-Broken.found.kind in
-    let p = c.in-Broken.found.place in
-    let taken = h.taken ++ b ∷ [] in
-    let e = broken_is way total taken c.in-Broken.found (c.in-Broken.ensures.answers total (body_kind_rows way total) h.taken h.has) in
-    ap (judge (way_rows way) 0) (ap (λ x. x ++ b ∷ []) h.is ∙ append_assoc h.before h.taken (b ∷ [])) ∙ h.left.judged taken
-    ∙ body_broken way total (length h.before) taken kind p e ∙ ap (λ s. fault kind (s + p)) (sym h.start)
+    let r = c.args.self.now in
+    let rows = body_kind_rows way r.total in
+    part_breaks (way_rows way) rows checked r.total left_in SaysKind StandsAt body_leaves r.machine r.start c.args.byte bytes c.in-Broken.found h.part (c.in-Broken.ensures.answers r.total rows h.part.taken h.part.has)

@@ -1,3 +1,4 @@
+//! A count of steps that takes no bytes and no time: what a bound on the work of judging bytes is said of.
 ghost use Rattle.std.specs.Prelude.{◌≡◌, ◌+◌, ◌<◌};
 
 use std::marker::Model;
