@@ -16,7 +16,7 @@ use Rattle.archive_journal.proofs.Walks.{file-closed, file-same, file-more, file
 use Rattle.archive_journal.proofs.Bodies.{IsWritten, written-entry}
 use Rattle.archive_journal.proofs.Images.{SameFront, WritesFrom, front-written, front-torn}
 
--- The body has been written behind the closed gate, with another closed gate behind it, and is durable.
+-- The body has been written after the closed gate, with another closed gate after it, and is durable.
 record HasBody (gate n : ℕ) (body : List ℕ) (es : List EntryValue) (c : Content) : Type 0 where
   rest : c ≡ settled c.reads
   stand : StandIn es gate c.reads

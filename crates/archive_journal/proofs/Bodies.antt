@@ -1,4 +1,4 @@
--- A body behind a gate.
+-- A body after a gate.
 use Rattle.std.proofs.Common.{◌≡◌, ℕ, ◌+◌, ◌<◌, true, List, length, get_or, take, drop, sym, ◌∙◌, ap, arith}
 use Rattle.std.specs.Int.{w32, from_be_bytes}
 use Rattle.std.proofs.lemmas.Bool.Decides.{nat_tests}
@@ -11,7 +11,7 @@ pub body-length : (body : List ℕ) → is_body body ≡ true → length body �
 unfolding is_body
 body-length body is = grind (arith, nat_tests, is)
 
--- a well-formed body stands behind an open gate, and another gate behind it
+-- a well-formed body comes after an open gate, and another gate after it
 pub record IsWritten (body bytes : List ℕ) : Type 0 where
   pub is : is_entry bytes ≡ true
   pub size : size_at bytes ≡ 1 + length body

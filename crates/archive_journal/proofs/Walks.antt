@@ -189,7 +189,7 @@ file-first file begins there = record { begins = begins; size = 0; place = refl;
 pub file-archive : (es : List EntryValue) (gate : ℕ) (file : List ℕ) → StandIn es gate file → IsArchive file
 file-archive es gate file s = inl s.begins
 
--- the length that code reads behind a gate
+-- the length that code reads after a gate
 pub length-behind : (bytes : List ℕ) (n : ℕ) → n ≡ length_in (take (length bytes - 1) (drop 1 bytes)) → n ≡ length_in (drop 1 bytes)
 length-behind bytes n is = is ∙ ap length_in (take_all (length bytes - 1) (drop 1 bytes) (omega (arith, length-drop 1 bytes)))
 
@@ -197,7 +197,7 @@ length-behind bytes n is = is ∙ ap length_in (take_all (length bytes - 1) (dro
 pub body-behind : (bytes : List ℕ) (n : ℕ) (b : Bool) → n ≡ length_in (drop 1 bytes) → is_body (take (5 + n - 1) (drop 1 bytes)) ≡ b → is_body (body_at bytes) ≡ b
 body-behind bytes n b is well = ap (λ k. is_body (take k (drop 1 bytes))) (ap (λ k. 4 + k) (sym is) ∙ omega arith) ∙ well
 
--- an entry that code has read behind others
+-- an entry that code has read after others
 pub stand-read : (es more : List EntryValue) (e : EntryValue) (gate size : ℕ) (file : List ℕ) → StandIn es gate file → is_entry (take (length file - gate) (drop gate file)) ≡ true
     → e ≡ entry_in (body_at (take (length file - gate) (drop gate file))) → size ≡ size_at (take (length file - gate) (drop gate file)) → more ≡ es ++ e ∷ [] → StandIn more (gate + size) file
 stand-read es more e gate size file s is e_is size_is more_is =

@@ -1,5 +1,5 @@
 -- How an entry's body lies in the archive's file (this project's own): length (4 bytes), which counts what follows it in the
--- body; IMEI as a number (8), below 10^15; codec id (1); number of records (1), 1 to 255; so many whole records of that codec,
+-- body; IMEI as a number (8), below 10^15; codec id (1); number of records (1), 1 to 255; N whole records of that codec,
 -- and nothing more. So a body is a data body under a length and an IMEI, without the second number of records.
 use Rattle.std.specs.Prelude.{ℕ, ◌+◌, ◌^◌, ◌==◌, ◌&&◌, nat_lt, Bool, true, false, List, ◌∷◌, ◌++◌, length, take, drop}
 use Rattle.std.specs.Int.{w32, w64, to_be_bytes, from_be_bytes}
@@ -21,11 +21,11 @@ pub record EntryValue : Type 0 where
 unfoldable pub length_in : List ℕ → ℕ
 length_in body = from_be_bytes w32 (take 4 body)
 
--- the number in the eight bytes behind them
+-- the number in the eight bytes after them
 unfoldable pub imei_in : List ℕ → ℕ
 imei_in body = from_be_bytes w64 (take 8 (drop 4 body))
 
--- the data body of a body: what stands behind its IMEI, and the number of records once more
+-- the data body of a body: what follows its IMEI, and the number of records once more
 abbrev pub packet_in : List ℕ → List ℕ
 packet_in body = drop 12 body ++ take 1 (drop 13 body)
 
@@ -42,7 +42,7 @@ is_body body = (length body == 4 + length_in body) && (nat_lt (imei_in body) (10
 abbrev pub entry_in : List ℕ → EntryValue
 entry_in body = record { imei = imei_in body; records = records_of (packet_in body) }
 
--- the bytes of records, one behind the other
+-- the bytes of records, one after the other
 abbrev pub joined : List Record → List ℕ
 joined records = flat_map (λ r. r.bytes) records
 

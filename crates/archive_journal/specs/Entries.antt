@@ -6,11 +6,11 @@ use Rattle.archive_journal.specs.Body.{EntryValue, length_in, is_body, entry_in}
 abbrev pub magic : List ℕ
 magic = 0x46 ∷ 0x4D ∷ 0x42 ∷ 0x41 ∷ 0x52 ∷ 0x43 ∷ 0x48 ∷ 0x31 ∷ []
 
--- how many bytes a gate and the body behind it have, by the body's length
+-- how many bytes a gate and the body after it have, by the body's length
 abbrev pub size_at : List ℕ → ℕ
 size_at bytes = 5 + length_in (drop 1 bytes)
 
--- the body behind a gate
+-- the body after a gate
 abbrev pub body_at : List ℕ → List ℕ
 body_at bytes = take (4 + length_in (drop 1 bytes)) (drop 1 bytes)
 
@@ -18,7 +18,7 @@ body_at bytes = take (4 + length_in (drop 1 bytes)) (drop 1 bytes)
 unfoldable pub is_entry : List ℕ → Bool
 is_entry bytes = (get_or bytes 0 0 == 0xA5) && (nat_lt (size_at bytes) (length bytes) && is_body (body_at bytes))
 
--- The entries from a gate on, at most so many: the first that doesn't count ends them.
+-- The entries from a gate on, at most N: the first that doesn't count ends them.
 abbrev pub entries_in : ℕ → List ℕ → List EntryValue
 entries_in zero bytes = []
 entries_in (suc n) bytes = if is_entry bytes then entry_in (body_at bytes) ∷ entries_in n (drop (size_at bytes) bytes) else []

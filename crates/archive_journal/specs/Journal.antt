@@ -56,7 +56,7 @@ pub record IsDurable (v : JournalView) : Type 0 where
   pub same : EachHolds v.medium (IsTold (entries_told v.medium.content))
   pub settled : IfTold v.medium.content (IsSettled v.bodies)
 
--- The journal is ready for an append of a body of so many bytes: the medium, and the buffer in which the body and the gate behind
+-- The journal is ready for an append of a body of N bytes: the medium, and the buffer in which the body and the gate after
 -- it are laid out.
 pub record HasRoom (v : JournalView) (bytes : ℕ) : Type 0 where
   pub medium : v.gate + bytes + 2 ≤ v.reserved

@@ -1,4 +1,4 @@
--- Where the entries stand in a file.
+-- Where the entries are in a file.
 use Rattle.std.specs.Prelude.{◌≡◌, ◌≢◌, ℕ, ◌+◌, ◌<◌, ◌≤◌, ◌^◌, true, false, List, [], ◌∷◌, length, get_or, take, drop}
 use Rattle.medium_model.specs.Content.{Content, settled}
 use Rattle.medium_model.specs.PowerLoss.{EveryImage}
@@ -7,12 +7,12 @@ use Rattle.archive_journal.specs.Body.{EntryValue, entry_in}
 use Rattle.archive_journal.specs.Entries.{magic, size_at, body_at, is_entry, IsArchive}
 use Rattle.archive_journal.specs.Journal.{JournalView}
 
--- These entries stand one behind the other at the front, in so many bytes.
+-- These entries stand one after the other at the front, in N bytes.
 abbrev pub Stand : List EntryValue → ℕ → List ℕ → Type 0
 Stand [] n bytes = n ≡ 0
 Stand (e ∷ es) n bytes = (is_entry bytes ≡ true) × (e ≡ entry_in (body_at bytes)) × (m : ℕ) × (n ≡ size_at bytes + m) × Stand es m (drop (size_at bytes) bytes)
 
--- These entries are the first of the file, and a gate stands behind them at this place.
+-- These entries are the first of the file, and a gate comes after them at this place.
 pub record StandIn (es : List EntryValue) (gate : ℕ) (file : List ℕ) : Type 0 where
   pub begins : take 8 file ≡ magic
   pub size : ℕ
@@ -20,7 +20,7 @@ pub record StandIn (es : List EntryValue) (gate : ℕ) (file : List ℕ) : Type 
   pub stand : Stand es size (drop 8 file)
   pub there : gate < length file
 
--- All that is read is durable, and the file's last gate is at this place, behind so many entries, and closed.
+-- All that is read is durable, and the file's last gate is at this place, after N entries, and closed.
 pub record IsClosed (gate bodies : ℕ) (c : Content) : Type 0 where
   pub rest : c ≡ settled c.reads
   pub entries : List EntryValue
@@ -37,7 +37,7 @@ pub record IsJournal (v : JournalView) : Type 0 where
   pub up : v.down ≡ false → IfTold v.medium.content (IsClosed v.gate v.bodies)
   pub archives : EveryImage v.medium.content IsArchive
 
--- All that is read is durable, and behind so many entries the gate at this place is open, with no entry that counts behind it.
+-- All that is read is durable, and after N entries the gate at this place is open, with no entry that counts after it.
 pub record IsOpen (gate bodies : ℕ) (c : Content) : Type 0 where
   pub rest : c ≡ settled c.reads
   pub entries : List EntryValue

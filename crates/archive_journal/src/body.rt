@@ -22,7 +22,7 @@ pub fn read_length(body: &[u8]) -> u32
     u32::from_be_bytes(length)
 }
 
-// The IMEI behind it.
+// The IMEI after it.
 #[tactic(auto, unfolding(crate::specs::Body::imei_in))]
 fn read_imei(body: &[u8]) -> Option<Imei>
     requires { 12 ≤ length body.now }
@@ -35,7 +35,7 @@ fn read_imei(body: &[u8]) -> Option<Imei>
     Imei::from_number(u64::from_be_bytes(number))
 }
 
-// The data body behind that.
+// The data body after that.
 fn packet_of(alloc: Global, body: &[u8]) -> Result<Vec<u8>, NoMemory>
     requires { 14 ≤ length body.now }
     ensures { IfOk result (λ packet. packet.items ≡ packet_in body.now) }

@@ -104,7 +104,7 @@ impl EntryList {
         }
     }
 
-    /// How many entries stand in it.
+    /// How many entries are in it.
     pub fn len(&self) -> usize
         ensures { result ≡ length self.now }
     {

@@ -17,7 +17,7 @@ use medium_model::{Bench, MAX_PLACE, Medium, ReserveError, Tear};
 use std::alloc::Global;
 use std::marker::Model;
 
-/// An archive on a medium, entry behind entry (this project's own).
+/// An archive on a medium, entry after entry (this project's own).
 ///
 /// An entry that was appended with Ok stays in every image that a power loss may leave. After an append that answered
 /// MediumFault the journal is down: take the medium, and open it again.
@@ -78,7 +78,7 @@ impl<M: Medium> Journal<M> {
         }
     }
 
-    /// Makes it ready for an append of a body of so many bytes. NoMemory leaves everything as it was, but for the room in its
+    /// Makes it ready for an append of a body of N bytes. NoMemory leaves everything as it was, but for the room in its
     /// buffer; Failed leaves the entries as they are, and comes only where the count of faults rose.
     pub fn room(&mut self, bytes: u32) -> Result<(), ReserveError>
         ensures room { OnOk result (HasRoom self.new bytes) }
@@ -104,7 +104,7 @@ impl<M: Medium> Journal<M> {
         Ok(())
     }
 
-    /// Whether it is ready for an append of a body of so many bytes.
+    /// Whether it is ready for an append of a body of N bytes.
     pub fn has_room(&self, bytes: u32) -> bool
         ensures { IsTrue result ↔ HasRoom self.now bytes }
     {
@@ -142,7 +142,7 @@ impl<M: Medium> Journal<M> {
         }
     }
 
-    /// Whether an append answered MediumFault.
+    /// Whether an append returned MediumFault.
     pub fn is_down(&self) -> bool
         ensures value { result ≡ self.now.down }
         ensures durable { self.now.down ≡ false → IsDurable self.now }

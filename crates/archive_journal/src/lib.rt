@@ -1,4 +1,4 @@
-//! An archive of records in a file, entry behind entry: an entry that was appended stays in every image that a power loss may
+//! An archive of records in a file, entry after entry: an entry that was appended stays in every image that a power loss may
 //! leave. Contracts see the entries and the medium, and no bytes of the file.
 #![tactic(auto)]
 

@@ -12,7 +12,7 @@ use avl_values::NoMemory;
 use medium_model::{MAX_PLACE, Medium, OPEN};
 use std::alloc::Global;
 
-// The entry whose gate stands first, and how many bytes gate and body have; None where it doesn't count.
+// The entry whose gate comes first, and how many bytes gate and body have; None where it doesn't count.
 fn front_entry(alloc: Global, bytes: &[u8]) -> Result<Option<(Entry, usize)>, NoMemory>
     ensures none { IfOk result (λ found. IfNone found (is_entry bytes.now ≡ false)) }
     ensures counts { IfOk result (λ found. IfSome found (λ f. is_entry bytes.now ≡ true)) }

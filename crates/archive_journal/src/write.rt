@@ -12,14 +12,14 @@ use medium_model::{CLOSED, Medium, OPEN};
 
 const EMPTY: [u8; 9] = *b"FMBARCH1\0";
 
-/// Where an archive ends: the place of its last gate, and how many entries stand in front of it.
+/// Where an archive ends: the place of its last gate, and how many entries are in front of it.
 #[derive(Clone, Copy)]
 pub struct Tail {
     pub gate: u64,
     pub bodies: u64,
 }
 
-// The body and the closed gate behind it.
+// The body and the closed gate after it.
 fn lay_out(buffer: &mut Vec<u8>, body: &[u8])
     requires { length body.now + 1 ≤ vec_capacity buffer.old }
     ensures bytes { buffer.new.items ≡ body.now ++ 0 ∷ [] }
@@ -30,7 +30,7 @@ fn lay_out(buffer: &mut Vec<u8>, body: &[u8])
     let _gate = buffer.push(CLOSED);
 }
 
-/// Appends an entry: its body, with a closed gate behind it, is durable before its gate is opened.
+/// Appends an entry: its body, with a closed gate after it, is durable before its gate is opened.
 pub fn write_entry<M: Medium>(
     medium: &mut M,
     tail: Tail,

@@ -1,7 +1,7 @@
 -- An IMEI is a number below 10^15, written as 15 decimal digits.
 use Rattle.std.specs.Prelude.{ℕ, zero, suc, ◌+◌, ◌/◌, ◌%◌, ◌&&◌, nat_le, Bool, List, [], ◌∷◌, ◌++◌}
 
--- a number's last decimal digits in so many places, as ASCII text
+-- a number's last decimal digits in N places, as ASCII text
 unfoldable pub decimal_places : ℕ → ℕ → List ℕ
 decimal_places zero n = []
 decimal_places (suc places) n = decimal_places places (n / 10) ++ (48 + n % 10) ∷ []

@@ -5,7 +5,7 @@ use Rattle.std.specs.Prelude.{ℕ, ◌+◌, List, [], ◌∷◌, length, take, d
 abbrev pub nx_size : List (ℕ × List ℕ) → ℕ
 nx_size elements = sum_by (λ e. 4 + length e.1) elements
 
--- the elements whose ids and lengths are these, and whose bytes stand one behind the other
+-- the elements whose ids and lengths are these, and whose bytes stand one after the other
 abbrev pub nx_elements : List (ℕ × ℕ) → List ℕ → List (ℕ × List ℕ)
 nx_elements [] bytes = []
 nx_elements (h ∷ hs) bytes = (h.0, take h.1 bytes) ∷ nx_elements hs (drop h.1 bytes)

@@ -9,7 +9,7 @@ bytes_of W2 = 2
 bytes_of W4 = 4
 bytes_of W8 = 8
 
--- the width of so many bytes, None for any other number
+-- the width of N bytes, None for any other number
 abbrev pub width_of_bytes : ℕ → Option Width
 width_of_bytes n = if n == 1 then Some W1 else if n == 2 then Some W2 else if n == 4 then Some W4 else if n == 8 then Some W8 else None
 

@@ -43,14 +43,14 @@ impl ByteList {
         items
     }
 
-    /// How many bytes stand in it.
+    /// How many bytes are in it.
     pub fn len(&self) -> usize
         ensures { result ≡ length self.now }
     {
         self.items.len()
     }
 
-    /// Whether no byte stands in it.
+    /// Whether no byte is in it.
     pub fn is_empty(&self) -> bool
         ensures { IsTrue result ↔ (self.now ≡ []) }
     {

@@ -4,17 +4,17 @@ ghost use Rattle.avl_values.specs.FaultKind.{name_of, number_of};
 /// Which rule of a field failed first in bytes that were received (this project's own numbers and names).
 #[derive(Clone, Copy, Debug, PartialEq, Eq)]
 pub enum FaultKind {
-    /// The codec id is none of those that may stand here.
+    /// The codec id is none of those that may be here.
     UnknownCodec,
     /// The number of records is 0.
     NoRecords,
-    /// A field would end behind the end of its body or datagram.
+    /// A field would end after the end of its body or datagram.
     Overrun,
     /// The counts of elements don't sum up to the total.
     TotalMismatch,
     /// The second number of records isn't the first.
     CountMismatch,
-    /// Bytes stand behind the second number of records.
+    /// Bytes come after the second number of records.
     Excess,
     /// A frame doesn't begin with four zero bytes.
     Preamble,

@@ -50,7 +50,7 @@ impl NxList {
         true
     }
 
-    /// How many elements stand in it.
+    /// How many elements are in it.
     pub fn len(&self) -> usize
         ensures { result ≡ length self.now }
     {

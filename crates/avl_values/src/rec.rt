@@ -9,7 +9,7 @@ use arrayvec::ArrayVec;
 pub struct Rec {
     /// The codec that its bytes are spelled in.
     pub codec: Codec,
-    /// The bytes as they stand in a data body.
+    /// The bytes as they are in a data body.
     pub bytes: ArrayVec<u8, 255>,
 }
 

@@ -46,14 +46,14 @@ impl RecList {
         items
     }
 
-    /// How many records stand in it.
+    /// How many records are in it.
     pub fn len(&self) -> usize
         ensures { result ≡ length self.now }
     {
         self.items.len()
     }
 
-    /// Whether no record stands in it.
+    /// Whether no record is in it.
     pub fn is_empty(&self) -> bool
         ensures { IsTrue result ↔ (self.now ≡ []) }
     {

@@ -27,7 +27,7 @@ impl Width {
         }
     }
 
-    /// The width of so many bytes; None exactly for any number but 1, 2, 4 and 8.
+    /// The width of N bytes; None exactly for any number but 1, 2, 4 and 8.
     pub fn from_bytes(n: u8) -> Option<Width>
         ensures { result ≡ width_of_bytes n }
     {

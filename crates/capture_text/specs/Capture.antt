@@ -22,13 +22,13 @@ abbrev pub with_bytes : CaptureWord → Result (List ℕ) FromHexError → Resul
 with_bytes word (Ok bytes) = Ok (word, bytes)
 with_bytes word (Err e) = Err BadHex
 
--- the word with the digits behind its space; None where there is no space
+-- the word with the digits after its space; None where there is no space
 abbrev pub with_digits : Option CaptureWord → Option (List ℕ) → Result (CaptureWord × List ℕ) CaptureFault
 with_digits None digits = Err UnknownWord
 with_digits (Some word) None = Err BadHex
 with_digits (Some word) (Some digits) = with_bytes word (decode_of digits)
 
--- a line by its parts before and behind its first space
+-- a line by its parts before and after its first space
 abbrev pub parts_say : List ℕ → Option (List ℕ × List ℕ) → Result (CaptureWord × List ℕ) CaptureFault
 parts_say line None = with_digits (word_of line) None
 parts_say line (Some parts) = with_digits (word_of parts.0) (Some parts.1)

@@ -8,7 +8,7 @@ use std::fmt;
 pub enum CaptureFault {
     /// The text has more than 2^24 bytes.
     TextTooLong,
-    /// What stands before the line's first space, or the whole line, is no word of a capture.
+    /// What comes before the line's first space, or the whole line, is no word of a capture.
     UnknownWord,
     /// There is no space, an odd number of digits, or another character among them.
     BadHex,

@@ -83,7 +83,7 @@ impl<'a> CaptureLine<'a> {
     }
 }
 
-/// A line's word, and the digits behind its first space, which aren't judged.
+/// A line's word, and the digits after its first space, which aren't judged.
 pub(crate) fn split_line(line: &[u8]) -> Result<(CaptureWord, &[u8]), CaptureFault>
     ensures parts { IfOk result (λ p. line_says line.now ≡ with_bytes p.0 (decode_of p.1.now)) }
     ensures fault { IfErr result (λ fault. line_says line.now ≡ Err fault) }

@@ -6,11 +6,11 @@ ghost use Rattle.capture_text.specs.Words.{name_of, word_of};
 pub enum CaptureWord {
     /// A stream up, from the login.
     Up,
-    /// A stream up, behind the login.
+    /// A stream up, after the login.
     Frames,
     /// A stream down, from the login's answer.
     Down,
-    /// A stream down, behind the login's answer.
+    /// A stream down, after the login's answer.
     Answers,
     /// One datagram.
     Udp,
@@ -29,7 +29,7 @@ impl CaptureWord {
         CaptureWord::Reply,
     ];
 
-    /// The word as it stands in a capture.
+    /// The word as it is in a capture.
     pub fn name(self) -> &'static str
         ensures { result.now ≡ name_of self }
     {

@@ -33,7 +33,7 @@ breaks_here way total cursor kind v here field is follows = ap (λ r. rule_of r 
 same_value : (s : Said) (text : List ℕ) (v : CommandValue) → Says s v → v.text ≡ text → ImeiFits v.imei → with_text s text ≡ v
 same_value s text v h t fits = rw (h.codec, h.kind, h.time, h.imei fits, sym t) refl
 
--- The text of a command stands before its last byte.
+-- The text of a command comes before its last byte.
 pub text_there : (v : CommandValue) (n : ℕ) (bytes : List ℕ) → bytes ≡ command_of v → length v.text ≡ n → (n + 1 ≤ length bytes) × (take n (drop (length bytes - (n + 1)) bytes) ≡ v.text)
 text_there v n bytes is len =
     let size = to_be_bytes w32 (length (content_of v)) in

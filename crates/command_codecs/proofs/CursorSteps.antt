@@ -55,7 +55,7 @@ pub size_fails : (way : Way) (total value : ℕ) (row : Row) (v : CommandValue) 
 unfolding size_rows
 size_fails way total value row v field n h = wrong_size total (least_size (row_is row)) (number field) (λ e f. h (omega (arith, e, n)) (omega (arith, f, n)))
 
--- behind the size stand the time, where there is one, and the IMEI and the text
+-- after the size stand the time, where there is one, and the IMEI and the text
 pub size_follows : (way : Way) (total value text : ℕ) (row : Row) (v : CommandValue) (field : List ℕ) (next : NextField) → number field ≡ value → value + 8 ≡ total → least_size (row_is row) ≤ value → text ≡ value - least_size (row_is row)
     → time_rows row.time (λ time. imei_rows row.imei (λ i. text_rows text (λ t. said v time i t))) ≡ rows_from way total next (record v { time = None; imei = None })
     → Follows way total (at.Size row) v field (Ok next)

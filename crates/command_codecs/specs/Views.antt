@@ -11,7 +11,7 @@ use Rattle.command_codecs.specs.declared.row.Row.{Row}
 abbrev pub value_of : Command → CommandValue
 value_of c = record { codec = c.codec; kind = c.kind; time = c.time; imei = c.imei; text = c.text.now }
 
--- the types that may stand in a command
+-- the types that may be in a command
 abbrev pub kinds_of : Kinds → List ℕ
 kinds_of Order = 0x05 ∷ []
 kinds_of Response = 0x06 ∷ []

@@ -22,7 +22,7 @@ pub struct Command<'a> {
     pub text: &'a [u8],
 }
 
-/// Whether a command may pass this way: exactly where its type may stand in a command of its codec and way, and time and IMEI are
+/// Whether a command may pass this way: exactly where its type may be in a command of its codec and way, and time and IMEI are
 /// there exactly where that has them.
 pub fn well_formed(command: &Command<'_>, way: Way) -> bool
     ensures { IsTrue result ↔ WellFormed way (value_of command.now) }

@@ -22,11 +22,11 @@ pub enum NextField {
     Quantity(Row),
     Kind(Row),
     Size(Row),
-    /// The time, whether an IMEI stands behind it, and the length of the text.
+    /// The time, whether an IMEI comes after it, and the length of the text.
     Time(bool, u32),
     /// The first byte of an IMEI, and the length of the text.
     FirstDigit(u32),
-    /// A later byte of an IMEI, how many stand behind it, and the length of the text.
+    /// A later byte of an IMEI, how many come after it, and the length of the text.
     Digits(u8, u32),
     Text(u32),
     LastQuantity,
@@ -67,7 +67,7 @@ fn after_kind(row: Row, value: u64) -> Result<NextField, FaultKind>
     }
 }
 
-/// What stands behind the time, or behind the size where there is none.
+/// What follows the time, or after the size where there is none.
 fn at_imei(imei: bool, text: u32) -> NextField
     ensures rows { (way : Way) → (total : ℕ) → (v : CommandValue) → rows_from way total result (record v { imei = None }) ≡ imei_rows imei (λ i. text_rows text (λ t. said v v.time i t)) }
     ensures turns { turns (left_of result) ≤ 1 }
@@ -167,7 +167,7 @@ impl NextField {
         }
     }
 
-    /// What stands after a field of this value, or the rule that the field breaks.
+    /// What follows a field of this value, or the rule that the field breaks.
     pub fn next(self, way: Way, total: u32, value: u64) -> Result<NextField, FaultKind>
         requires { FitsIn (left_of self) value }
         ensures follows { (v : CommandValue) → (field : List ℕ) → left_of self ≡ left.Field (length field) → Reads field value → Follows way total self v field result }

@@ -9,7 +9,7 @@ use layout::Steps;
 use std::sync::ledger::Ledger;
 
 /// Judges the bytes of a command's body of a known length, one at a time, and holds none of them. After each byte it answers
-/// what `scan_command` answers of all bytes so far.
+/// what `scan_command` returns for all bytes so far.
 #[derive(Clone, Copy)]
 pub struct CommandMachine {
     machine: Machine<CommandPlace>,

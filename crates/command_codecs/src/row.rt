@@ -1,11 +1,11 @@
-//! The table of what stands in a command.
+//! The table of what a command has.
 ghost use Rattle.std.specs.Prelude.{◌≡◌, ◌≤◌, Some};
 ghost use Rattle.command_layout.specs.Table.{is_among, least_size, row_of};
 ghost use Rattle.command_codecs.specs.Views.{found_row, kinds_of, row_is};
 
 use command_layout::Way;
 
-/// The types that may stand in a command of a codec and way.
+/// The types that may be in a command of a codec and way.
 #[derive(Clone, Copy)]
 pub enum Kinds {
     /// `05`.
@@ -18,14 +18,14 @@ pub enum Kinds {
     Message,
 }
 
-/// The types that may stand in a command of a codec and way, and whether its content has a time and an IMEI.
+/// The types that may be in a command of a codec and way, and whether its content has a time and an IMEI.
 #[derive(Clone, Copy)]
 pub struct Row {
-    /// The types that may stand in it.
+    /// The types that may be in it.
     pub kinds: Kinds,
     /// Whether its content begins with a time.
     pub time: bool,
-    /// Whether an IMEI stands before its text.
+    /// Whether an IMEI comes before its text.
     pub imei: bool,
 }
 

@@ -22,7 +22,7 @@ pub fn scan_command(have: &[u8], total: u32, way: Way) -> CommandScan
     CommandScan::of(scan(have, total, CommandPlace::first(total, way)))
 }
 
-/// The text of a whole command, which has `count` bytes and stands before the last quantity.
+/// The text of a whole command, which has `count` bytes and comes before the last quantity.
 fn text_of(body: &[u8], count: u32) -> &[u8]
     requires { count + 1 ≤ length body.now }
     ensures { result.now ≡ take count (drop (length body.now - (count + 1)) body.now) }

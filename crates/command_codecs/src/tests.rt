@@ -241,7 +241,7 @@ fn bodies() -> [(Way, &'static [u8]); 7] {
     ]
 }
 
-/// How often a machine answered More, how many steps it took, and its last answer.
+/// How often a machine returned More, how many steps it took, and its last answer.
 #[derive(Drop)]
 struct Judged {
     more: usize,
@@ -302,7 +302,7 @@ fn machine_answers_what_scan_command_does(rt: HostRuntime) -> Result<(), Fail> {
     Ok(())
 }
 
-/// A body cut behind its size has the wrong size, and one cut in it is overrun.
+/// A body cut after its size has the wrong size, and one cut in it is overrun.
 #[test]
 fn machine_answers_what_scan_command_does_on_cut_bodies(rt: HostRuntime) -> Result<(), Fail> {
     for (way, body) in bodies() {

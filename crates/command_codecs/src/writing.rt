@@ -102,7 +102,7 @@ fn put_command(out: &mut ArrayVec<u8, 1268>, command: &Command<'_>, size: usize)
     out.push(QUANTITY);
 }
 
-/// Writes the body of a command over what stood in `out` (Teltonika, Data Sending Protocols: Codecs 12, 13, 14, 15). It is false,
+/// Writes the body of a command over what was in `out` (Teltonika, Data Sending Protocols: Codecs 12, 13, 14, 15). It is false,
 /// with `out` empty, exactly where the body has more than 1,268 bytes. What is written is a command of each way in which the
 /// value is well-formed.
 #[tactic(auto, using(crate::proofs::Sizes::content_length, crate::proofs::Sizes::body_length))]

@@ -40,7 +40,7 @@ two_from b e =
     let low : b % 16 ≤ 9 = grind (arith, nat_tests) in
     (high, low)
 
--- the pairs behind the first
+-- the pairs after the first
 
 pairs_fill : {V : Type 0} (k n : ℕ) (rest : ℕ → Rows V) (v : V) (more : List ℕ) → Fills (rest n) v more → Fills (pair_rows k (n / 100 ^ k) rest) v (digit_pairs k n ++ more)
 unfolding pair_rows digit_pairs

@@ -22,7 +22,7 @@ time_rows false rest = rest None
 abbrev pub digits_rule : ℕ → Option FaultKind
 digits_rule b = fault_unless (nat_le (b / 16) 9 && nat_le (b % 16) 9) ImeiDigits
 
--- so many bytes of two digits, behind those that spell a number
+-- N bytes of two digits, after those that spell a number
 unfoldable pub pair_rows : {V : Type 0} → ℕ → ℕ → (ℕ → Rows V) → Rows V
 pair_rows zero n rest = rest n
 pair_rows (suc k) n rest = number_row 1 digits_rule (λ b. pair_rows k (n * 100 + (b / 16 * 10 + b % 16)) rest)
@@ -32,11 +32,11 @@ unfoldable pub imei_rows : {V : Type 0} → Bool → (Option ℕ → Rows V) →
 imei_rows true rest = number_row 1 (λ b. fault_unless (nat_le b 9) ImeiDigits) (λ b. pair_rows 7 b (λ n. rest (Some n)))
 imei_rows false rest = rest None
 
--- so many bytes of text, and the second quantity
+-- N bytes of text, and the second quantity
 unfoldable pub text_rows : ℕ → (List ℕ → CommandValue) → Rows CommandValue
 text_rows size says = row size (λ _. None) (λ text. quantity_row (done (says text)))
 
--- the content of so many bytes, and the second quantity
+-- the content of N bytes, and the second quantity
 abbrev pub content_rows : CommandRow → ℕ → ℕ → ℕ → Rows CommandValue
 content_rows r codec kind size =
     time_rows r.time
@@ -61,10 +61,10 @@ abbrev pub with_row : ℕ → Option CommandRow → ℕ → Rows CommandValue
 with_row total (Some r) codec = quantity_row (kind_rows total r codec)
 with_row total None codec = refuse UnknownCodec
 
--- a command's body of so many bytes: the codec id, and what its row in the table says
+-- a command's body of N bytes: the codec id, and what its row in the table says
 unfoldable pub command_rows : Way → ℕ → Rows CommandValue
 command_rows way total = number_row 1 (λ id. row_rule (row_of way id)) (λ id. with_row total (row_of way id) id)
 
--- the verdict on the first bytes of a body of so many bytes
+-- the verdict on the first bytes of a body of N bytes
 unfoldable pub command_verdict : Way → ℕ → List ℕ → Verdict CommandValue
 command_verdict way total bytes = judge (body total (command_rows way total)) 0 bytes

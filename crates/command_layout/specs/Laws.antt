@@ -10,7 +10,7 @@ use Rattle.command_layout.specs.CommandRows.{command_verdict}
 use Rattle.command_layout.specs.Spelling.{IsCommand, command_of}
 use Rattle.command_layout.specs.Values.{CommandValue}
 
--- A whole verdict says that the body of so many bytes is there and is the command.
+-- A whole verdict says that the body of N bytes is there and is the command.
 abbrev pub WholeIsCommand : Type 0
 WholeIsCommand = (way : Way) (total n : ℕ) (v : CommandValue) (bytes : List ℕ) → AreBytes bytes → command_verdict way total bytes ≡ whole v n
     → (n ≡ total) × (total ≤ length bytes) × IsCommand way v (take total bytes)

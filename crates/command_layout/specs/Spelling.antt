@@ -10,7 +10,7 @@ use Rattle.command_layout.specs.Table.{WellFormed}
 abbrev pub two_digits : ℕ → ℕ
 two_digits n = n / 10 % 10 * 16 + n % 10
 
--- a number's last decimal digits in so many bytes, the highest first
+-- a number's last decimal digits in N bytes, the highest first
 unfoldable pub digit_pairs : ℕ → ℕ → List ℕ
 digit_pairs zero n = []
 digit_pairs (suc k) n = two_digits (n / 100 ^ k) ∷ digit_pairs k n

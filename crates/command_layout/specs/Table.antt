@@ -1,4 +1,4 @@
--- What stands in a command of each codec and way (Teltonika, Data Sending Protocols: Codecs 12, 13, 14, 15; which types pass
+-- What a command has of each codec and way (Teltonika, Data Sending Protocols: Codecs 12, 13, 14, 15; which types pass
 -- which way, and that Codecs 13 and 15 pass up alone, is this project's own).
 use Rattle.std.specs.Prelude.{◌≡◌, ℕ, ◌+◌, ◌==◌, ◌||◌, List, [], ◌∷◌, Bool, true, false, Option, Some, None, if◌then◌else◌}
 use Rattle.command_layout.specs.declared.way.Way.{Way}
@@ -6,7 +6,7 @@ use Rattle.command_layout.specs.declared.way.Way.TheVariants.{Up, Down}
 use Rattle.std.specs.Option.{is_some}
 use Rattle.command_layout.specs.Values.{CommandValue}
 
--- the types that may stand in it, and whether its content begins with a time, and goes on with an IMEI; then comes the text
+-- the types that may be in it, and whether its content begins with a time, and goes on with an IMEI; then comes the text
 pub record CommandRow : Type 0 where
   pub kinds : List ℕ
   pub time : Bool

@@ -1,7 +1,7 @@
 //! The laws of commands, each as the contract of a function that does nothing.
 ghost use Rattle.command_layout.specs.Laws.{AnswerFits, AnswerIsCommand, AnswerIsWellFormed, CommandIsValue, ValueIsCommand, CommandIsWhole, CommandVerdictStays, NoCommandBeginsAnother, WholeIsCommand};
 
-/// A whole verdict says that the body of so many bytes is there, and is the command of the value that it says.
+/// A whole verdict says that the body of N bytes is there, and is the command of the value that it says.
 pub fn whole_is_command()
     ensures { WholeIsCommand }
 {}

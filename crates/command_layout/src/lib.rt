@@ -1,4 +1,4 @@
-//! Commands and responses of Codecs 12 to 15 as definitions: one table of what stands in a command of each codec and way, the
+//! Commands and responses of Codecs 12 to 15 as definitions: one table of what a command has of each codec and way, the
 //! one spelling of a command, the rows of its verdict, and the laws between both.
 #![tactic(auto)]
 

@@ -6,7 +6,7 @@ use Rattle.std.specs.Prelude.{ℕ, zero, suc, ◌/◌, ◌%◌, ◌==◌, List, 
 abbrev pub after_bit : ℕ → ℕ
 after_bit word = if word % 2 == 1 then bit_xor (word / 2) 0xA001 else word / 2
 
--- so many bits go out
+-- N bits go out
 unfoldable pub after_bits : ℕ → ℕ → ℕ
 after_bits zero word = word
 after_bits (suc bits) word = after_bits bits (after_bit word)

@@ -45,7 +45,7 @@ unfolding decimal_places
 places_length zero n = refl
 places_length (suc k) n = omega (arith, length-append (decimal_places k (n / 10)) ((48 + n % 10) ∷ []), places_length k (n / 10))
 
--- behind the numbers stand the IMEI and the data body
+-- after the numbers stand the IMEI and the data body
 abbrev pub behind_numbers : ℕ → ℕ → ℕ → Rows DatagramValue
 behind_numbers packet unused avl_packet = login_rows (λ imei. body_rows (λ body. record { packet = packet; unused = unused; avl_packet = avl_packet; imei = imei; body = body }))
 

@@ -12,7 +12,7 @@ use Rattle.datagrams.specs.Reading.{left_verdict}
 use Rattle.datagrams.specs.Values.{DatagramValue}
 use Rattle.datagrams.proofs.ReadSteps.{byte_on, byte_fails, number_fails, number_on, number_over}
 
--- so many digits are left, behind those that spell a number
+-- N digits are left, after those that spell a number
 abbrev pub DigitsLeft : List ℕ → ℕ → ℕ → ℕ → List ℕ → Type 0
 DigitsLeft all left number place rest = (rows : ℕ → Rows DatagramValue) → left_verdict (digit_rows 15 0 rows) 8 all ≡ left_verdict (digit_rows left number rows) place rest
 

@@ -108,7 +108,7 @@ body_broken says place at rest kind e =
     let next : PacketHead → ℕ → Verdict (PacketHead × List ℕ) = λ v n. whole (v, rest) (place + length rest) in
     with_body says place rest ∙ ap (λ v. map_verdict (λ (b : PacketHead × List ℕ). says b.1) (and_then (moved place v) next)) e
 
--- the place of a data body's fault isn't behind its bytes
+-- the place of a data body's fault isn't after its bytes
 pub packet_fault_place : (total : ℕ) (bytes : List ℕ) (kind : FaultKind) (place : ℕ) → packet_verdict total bytes ≡ fault kind place → place ≤ length bytes
 unfolding packet_verdict
 packet_fault_place total bytes kind place e = omega (arith, fault_place (body total packet_rows) 0 bytes kind place e)

@@ -13,7 +13,7 @@ use Rattle.datagrams.specs.Items.{IsReply}
 use Rattle.datagrams.specs.Values.{ReplyValue}
 use Rattle.datagrams.proofs.NumbersFills.{byte_fill, byte_take, joined_number, joined_numbers, length_fill, length_take, numbers_fill, numbers_take}
 
--- behind the numbers stands the count
+-- after the numbers stands the count
 abbrev pub behind_numbers : ℕ → ℕ → ℕ → Rows ReplyValue
 behind_numbers packet unused avl_packet = any_number 1 (λ count. done (record { packet = packet; unused = unused; avl_packet = avl_packet; count = count }))
 

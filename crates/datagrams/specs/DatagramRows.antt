@@ -27,7 +27,7 @@ length_rows total right rest = if nat_lt total 2 then refuse DatagramLength else
 abbrev pub body_rows : (List ℕ → DatagramValue) → Rows DatagramValue
 body_rows says = map_value (λ b. says b.1) (with_bytes [] packet_rows)
 
--- a datagram of so many bytes: the length of what follows, the three numbers, the IMEI as a login holds it, and the data body
+-- a datagram of N bytes: the length of what follows, the three numbers, the IMEI as a login holds it, and the data body
 unfoldable pub datagram_rows : ℕ → Rows DatagramValue
 datagram_rows total =
     length_rows total (λ n. n + 2 == total)
@@ -35,16 +35,16 @@ datagram_rows total =
     (λ packet unused avl_packet.
     login_rows (λ imei. body_rows (λ body. record { packet = packet; unused = unused; avl_packet = avl_packet; imei = imei; body = body }))))
 
--- a reply of so many bytes, which are seven: the length 5, the three numbers and the count
+-- a reply of N bytes, which are seven: the length 5, the three numbers and the count
 unfoldable pub reply_rows : ℕ → Rows ReplyValue
 reply_rows total =
     length_rows total (λ n. (n == 5) && (total == 7))
     (numbers_rows (λ packet unused avl_packet. any_number 1 (λ count. done (record { packet = packet; unused = unused; avl_packet = avl_packet; count = count }))))
 
--- the verdict on the first bytes of a datagram of so many bytes
+-- the verdict on the first bytes of a datagram of N bytes
 unfoldable pub datagram_verdict : ℕ → List ℕ → Verdict DatagramValue
 datagram_verdict total bytes = judge (body total (datagram_rows total)) 0 bytes
 
--- the verdict on the first bytes of a reply of so many bytes
+-- the verdict on the first bytes of a reply of N bytes
 unfoldable pub reply_verdict : ℕ → List ℕ → Verdict ReplyValue
 reply_verdict total bytes = judge (body total (reply_rows total)) 0 bytes

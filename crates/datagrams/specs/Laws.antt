@@ -6,7 +6,7 @@ use Rattle.datagrams.specs.DatagramRows.{datagram_verdict, reply_verdict}
 use Rattle.datagrams.specs.Items.{IsDatagram, IsReply}
 use Rattle.datagrams.specs.Values.{DatagramValue, ReplyValue}
 
--- A whole verdict says that the datagram of so many bytes is there.
+-- A whole verdict says that the datagram of N bytes is there.
 abbrev pub WholeIsDatagram : Type 0
 WholeIsDatagram = (total n : ℕ) (v : DatagramValue) (bytes : List ℕ) → AreBytes bytes → datagram_verdict total bytes ≡ whole v n
     → (n ≡ total) × (total ≤ length bytes) × IsDatagram v (take total bytes)

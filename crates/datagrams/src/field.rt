@@ -15,7 +15,7 @@ fn overrun(place: u32) -> Fault
     }
 }
 
-/// The byte at this place, and those behind it; Overrun exactly where there is none.
+/// The byte at this place, and those after it; Overrun exactly where there is none.
 pub fn byte(rest: &[u8], place: u32) -> Result<(u8, &[u8]), Fault>
     ensures read { IfOk result (λ r. (rest.now ≡ r.0 ∷ r.1.now) × (r.0 < 256)) }
     ensures over { IfErr result (λ found. (rest.now ≡ []) × (found ≡ overrun_at place)) }
@@ -26,7 +26,7 @@ pub fn byte(rest: &[u8], place: u32) -> Result<(u8, &[u8]), Fault>
     }
 }
 
-/// The two bytes at this place as a number, the higher one first, and the bytes behind them; Overrun exactly where there are fewer.
+/// The two bytes at this place as a number, the higher one first, and the bytes after them; Overrun exactly where there are fewer.
 pub fn two_bytes(rest: &[u8], place: u32) -> Result<(u16, &[u8]), Fault>
     ensures read { IfOk result (λ r. (rest.now ≡ to_be_bytes w16 r.0 ++ r.1.now) × (r.0 < 2 ^ 16)) }
     ensures over { IfErr result (λ found. (length rest.now < 2) × (found ≡ overrun_at place)) }

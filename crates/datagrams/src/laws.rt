@@ -1,7 +1,7 @@
 //! The laws of datagrams and replies, each as the contract of a function that does nothing.
 ghost use Rattle.datagrams.specs.Laws.{DatagramIsWhole, DatagramVerdictStays, NoDatagramBeginsAnother, NoReplyBeginsAnother, ReplyIsWhole, ReplyVerdictStays, WholeIsDatagram, WholeIsReply};
 
-/// A whole verdict says that the datagram of so many bytes is there, and is the one of the value that it says.
+/// A whole verdict says that the datagram of N bytes is there, and is the one of the value that it says.
 pub fn whole_is_datagram()
     ensures { WholeIsDatagram }
 {}

@@ -32,10 +32,10 @@ const BODY: u32 = 23;
 /// The bytes of a reply.
 const REPLY: usize = 7;
 
-/// The bytes of a reply behind its length.
+/// The bytes of a reply after its length.
 const REPLY_LENGTH: u16 = 5;
 
-/// What stands behind the length, where that is right.
+/// What follows the length, where that is right.
 fn behind_length(bytes: &[u8]) -> Result<&[u8], Fault>
     ensures read { IfOk result (λ rest. (rows : Rows DatagramValue) → left_verdict (length_rows (length bytes.now) (λ n. n + 2 == length bytes.now) rows) 0 bytes.now ≡ left_verdict rows 2 rest.now) }
     ensures few { IfOk result (λ rest. length rest.now < 2 ^ 16) }
@@ -58,7 +58,7 @@ struct Numbers {
     avl_packet: u8,
 }
 
-/// The three numbers, and what stands behind them.
+/// The three numbers, and what follows them.
 fn three_numbers(all: &[u8]) -> Result<(Numbers, &[u8]), Fault>
     ensures read { IfOk result (λ r. (rows : ℕ → ℕ → ℕ → Rows DatagramValue) → left_verdict (numbers_rows rows) 2 all.now ≡ left_verdict (rows r.0.packet r.0.unused r.0.avl_packet) 6 r.1.now) }
     ensures few { IfOk result (λ r. length r.1.now ≤ length all.now) }
@@ -75,7 +75,7 @@ fn three_numbers(all: &[u8]) -> Result<(Numbers, &[u8]), Fault>
     Ok((numbers, rest))
 }
 
-/// The 15 digits of an IMEI, and what stands behind them.
+/// The 15 digits of an IMEI, and what follows them.
 fn digits(all: &[u8]) -> Result<(Imei, &[u8]), Fault>
     ensures read { IfOk result (λ r. (rows : ℕ → Rows DatagramValue) → left_verdict (digit_rows 15 0 rows) 8 all.now ≡ left_verdict (rows r.0) 23 r.1.now) }
     ensures few { IfOk result (λ r. length r.1.now ≤ length all.now) }
@@ -100,7 +100,7 @@ fn digits(all: &[u8]) -> Result<(Imei, &[u8]), Fault>
     }
 }
 
-/// The IMEI as a login holds it, and what stands behind it.
+/// The IMEI as a login holds it, and what follows it.
 fn imei(all: &[u8]) -> Result<(Imei, &[u8]), Fault>
     ensures read { IfOk result (λ r. (rows : ℕ → Rows DatagramValue) → left_verdict (login_rows rows) 6 all.now ≡ left_verdict (rows r.0) 23 r.1.now) }
     ensures few { IfOk result (λ r. length r.1.now ≤ length all.now) }

@@ -16,7 +16,7 @@ use arrayvec::ArrayVec;
 use frame_layout::write_login;
 use layout::put_all;
 
-/// The bytes of a datagram that stand before its body: its length field, its numbers and its IMEI.
+/// The bytes of a datagram that come before its body: its length field, its numbers and its IMEI.
 const HEAD: usize = 23;
 
 const LONGEST_BODY: usize = 1280 - HEAD;
@@ -33,7 +33,7 @@ fn put_numbers(out: &mut ArrayVec<u8, 1280>, packet: u16, unused: u8, avl_packet
     out.push(avl_packet);
 }
 
-/// Writes a datagram over what stood in `out`. Its body is a data body. It is false, with `out` empty, exactly where the datagram
+/// Writes a datagram over what was in `out`. Its body is a data body. It is false, with `out` empty, exactly where the datagram
 /// has more than 1,280 bytes.
 pub fn write_datagram(value: &Datagram<'_>, out: &mut ArrayVec<u8, 1280>) -> bool
     requires { (head : PacketHead) × IsBody head value.now.body.now }

@@ -11,7 +11,7 @@ use Rattle.desk.specs.Steps.{Place, kept_half, given_half}
 use Rattle.desk.specs.Desks.{IsNewSeat, AreNewSeats}
 use Rattle.desk.proofs.Shelves.{some-same}
 
--- so many seats were handed out, and the first seat has the numbers that are left
+-- N seats were handed out, and the first seat has the numbers that are left
 pub record IsDealing (o : Shelved) (seats given : ℕ) (m : Place) : Type 0 where
   pub left : ℕ
   pub sum : given + left ≡ seats

@@ -85,7 +85,7 @@ stays-down (x ∷ log) = ap (λ d. down_by d (all_brought log)) (still x.brought
     still (Err NoMemory) = refl
     still (Err (MediumFault faults)) = refl
 
--- a shelf that was up is down where a call answered MediumFault
+-- a shelf that was up is down where a call returned MediumFault
 pub down-by-fault : (log : List Entry) → HasFault log → down_by false (all_brought log) ≡ true
 down-by-fault [] fault = absurd fault
 down-by-fault (x ∷ log) fault = split x.brought.answer fault (down-by-fault log)

@@ -40,7 +40,7 @@ pub length-counting : (i k : ℕ) → length (counting i k) ≡ k
 length-counting i zero = refl
 length-counting i (suc k) = ap suc (length-counting (suc i) k)
 
--- A view that stands alone.
+-- A view that is alone.
 
 module _ (stage : Stage) (v : View) (alone : IsAlone stage v) where
   pub numbers-alone : all_numbers v ≡ v.numbers ++ []

@@ -9,7 +9,7 @@ use Rattle.shelf.specs.declared.receipt.Receipt.{Receipt}
 use Rattle.shelf.specs.declared.receipt.AdmitFault.{AdmitFault}
 use Rattle.shelf.specs.declared.receipt.AdmitFault.TheVariants.{Down, NoMemory, MediumFault}
 
--- a call answered MediumFault
+-- a call returned MediumFault
 abbrev pub HasFault : List Entry → Type 0
 HasFault [] = ⊥
 HasFault (e ∷ log) = IsMediumFault e.brought.answer ⊎ HasFault log

@@ -23,7 +23,7 @@ module _ {M : Type 0} {d : Ghosts M} where
     pub down : IsDown result ↔ HasFault (before_last (seen new))
     pub fault : CarriesAbove (opening desk).faults result
 
-  -- It puts itself behind the calls that the seat tells: those under its numbers.
+  -- It puts itself after the calls that the seat tells: those under its numbers.
   pub tells-call : (desk : Desk M) (old : Seat M d) (imei : ℕ) (body : List ℕ) (result : Result Receipt AdmitFault) (desk_now : Desk M) (new : Seat M d) → SeatLeaves desk old imei body result desk_now new
       → TellsCall imei body result no_mark no_mark (Some (all_brought (calls_by (numbers old) (seen old)))) (Some (all_brought (calls_by (numbers new) (seen new))))
   tells-call desk old imei body result desk_now new left = record {

@@ -33,7 +33,7 @@ pub record Looked (old : Place) (found : ℕ) (new : Place) : Type 0 where
   pub turn : found ≡ old.0.ticket % 2 ^ 64 → HasTurn old new
   pub wait : found ≢ old.0.ticket % 2 ^ 64 → new ≡ old
 
--- publish: the entry stands in the history, the shelf is at home, and the turn is passed on
+-- publish: the entry is in the history, the shelf is at home, and the turn is passed on
 abbrev pub Published : Entry → Place → Place → Type 0
 Published e old new = new ≡ (view old.0.opening (old.0.seen ++ e ∷ []) old.0.numbers Idle old.0.ticket, rest old.1)
 

@@ -1,4 +1,4 @@
-//! Turns at one archive for many sessions. Each call of `admit` waits for its turn, and the calls of all seats stand in one history,
+//! Turns at one archive for many sessions. Each call of `admit` waits for its turn, and the calls of all seats are in one history,
 //! which leaves the archive's record list.
 #![tactic(auto)]
 

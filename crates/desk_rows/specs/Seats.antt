@@ -6,7 +6,7 @@ use Rattle.desk.specs.declared.desk.Seat.{Seat}
 use Rattle.desk.specs.Desks.{IsSeatOf, numbers}
 
 module _ {M : Type 0} {d : Ghosts M} where
-  -- a seat of this desk that stands for so many seats
+  -- a seat of this desk that stands for N seats
   pub record StandsForSeats (desk : Desk M) (many : ℕ) (seat : Seat M d) : Type 0 where
     pub of_desk : IsSeatOf desk seat
     pub count : length (numbers seat) ≡ many

@@ -39,7 +39,7 @@ module _ {V W : Type 0} (all : Rows W) (rows : Rows V) (after : V × List ℕ �
   abbrev pub behind : ℕ → List ℕ → V → ℕ → Verdict W
   behind place bytes v n = judge (after (v, take total bytes)) (place + total) (drop total bytes)
 
-  -- the verdict is that on the part, and then that on what stands after it
+  -- the verdict is that on the part, and then that on what follows it
   judged : (before bytes : List ℕ) → LeftAfter all before (within total (with_bytes [] rows) after)
       → judge all 0 (before ++ bytes) ≡ and_then (moved (length before) (judge (body total rows) 0 bytes)) (behind (length before) bytes)
   judged before bytes left =

@@ -1,4 +1,4 @@
--- A machine inside an item: in a part of it that has a known length, after some whole fields and before what stands after the part.
+-- A machine inside an item: in a part of it that has a known length, after some whole fields and before what follows the part.
 use Rattle.std.specs.Prelude.{◌≡◌, ℕ, List, [], ◌++◌, length}
 use Rattle.layout.specs.Nested.{with_bytes}
 use Rattle.layout.specs.Rows.{Rows, judge, within}
@@ -11,7 +11,7 @@ pub record LeftAfter {W : Type 0} (all : Rows W) (fields : List ℕ) (rows : Row
   pub judged : (more : List ℕ) → judge all 0 (fields ++ more) ≡ judge rows (length fields) more
 
 -- The bytes so far are some whole fields of the item, and then those that the machine has taken of a part of `total` bytes, which
--- begins at `start`. What stands after the part depends on what the part says, and on its bytes.
+-- begins at `start`. What follows the part depends on what the part says, and on its bytes.
 pub record InPart {C H V W : Type 0} (left_of : C → Left H) (stands : C → Rows V → Type 0) (all : Rows W) (rows : Rows V) (after : V × List ℕ → Rows W) (m : Machine C) (start total : ℕ) (bytes : List ℕ) : Type 0 where
   pub before : List ℕ
   pub taken : List ℕ

@@ -10,7 +10,7 @@ use avl_values::FaultKind;
 
 /// A place from which the number that the next field spells is enough to go on.
 pub trait Cursor: Place {
-    /// What stands after a field of this value, or the rule that the field breaks.
+    /// What follows a field of this value, or the rule that the field breaks.
     fn next(self, value: u64) -> Result<Self, FaultKind>
         requires { FitsIn (Self.left_of self) value }
         ensures follows { (here : Rows Self.Value) → (field : List ℕ) → Self.stands self here → Self.left_of self ≡ left.Field (length field) → Reads field value → Follows Self.stands here field result }

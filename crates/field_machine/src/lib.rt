@@ -1,5 +1,5 @@
 //! Judging an item's bytes field by field, over any place between its fields: all bytes at once by `scan`, or one at a time by
-//! `Machine`. What an item is stands in its rows (`layout`); a crate above gives the places between its own fields.
+//! `Machine`. What an item is, its rows say (`layout`); a crate above gives the places between its own fields.
 #![tactic(auto)]
 
 mod by_number;

@@ -9,8 +9,8 @@ use avl_values::{Fault, FaultKind};
 use layout::Steps;
 use std::sync::ledger::Ledger;
 
-/// Judges the bytes of a body of a known length, one at a time, and holds none of them. After each byte it answers what
-/// `scan_with` answers of all bytes so far.
+/// Judges the bytes of a body of a known length, one at a time, and holds none of them. After each byte it returns what
+/// `scan_with` returns for all bytes so far.
 #[derive(Clone, Copy)]
 pub struct Machine<C> {
     total: u32,

@@ -10,7 +10,7 @@ use avl_values::FaultKind;
 
 /// A place that takes the next field as its bytes, and may keep what it says.
 pub trait Reading: Place {
-    /// What stands after this field, or the rule that the field breaks.
+    /// What follows this field, or the rule that the field breaks.
     fn read(self, field: &[u8]) -> Result<Self, FaultKind>
         requires { Self.left_of self ≡ left.Field (length field.now) }
         ensures follows { (here : Rows Self.Value) → Self.stands self here → Follows Self.stands here field.now result }

@@ -114,7 +114,7 @@ map-drop zero es = refl
 map-drop (suc n) [] = refl
 map-drop (suc n) (e ∷ es) = map-drop n es
 
--- So the oldest batch, closed, leaves what is held behind as many records.
+-- So the oldest batch, closed, leaves what is held after as many records.
 pub held_of-released : (room : ℕ) (slots : List (Option Held)) → held_of (closed_all (selected Oldest room slots) slots) ≡ drop (length (selected Oldest room slots)) (held_of slots)
 held_of-released room slots = ap (map rec_of) (entries-released Oldest room slots) ∙ map-drop (length (selected Oldest room slots)) (entries_of Oldest slots)
 
@@ -131,7 +131,7 @@ pub recs-selected : (order : Order) (room : ℕ) (slots : List (Option Held)) �
 recs-selected order room slots =
     ap (recs_in slots) (selected-front order room slots) ∙ recs-front (length (selected order room slots)) slots (entries_of order slots) (entries-open order 0 slots)
 
--- a record among others, at the front or behind it
+-- a record among others, at the front or after it
 in-front : (r : Record) (x : Record) (xs : List Record) → x ≡ r → Contains (x ∷ xs) r
 in-front r x xs same = (0, omega arith, same)
 
@@ -179,7 +179,7 @@ pub record OpenWith (slots : List (Option Held)) (r : Record) : Type 0 where
   pub open_slot : slice_get slots slot ≡ Some (Some held)
   pub rec : held.rec ≡ r
 
--- What is held stands in an open slot.
+-- What is held is in an open slot.
 pub held_of-slot : (slots : List (Option Held)) (r : Record) → Contains (held_of slots) r → OpenWith slots r
 held_of-slot slots r is = of_entries (entries_of Oldest slots) (entries-open Oldest 0 slots) is
   where

@@ -78,7 +78,7 @@ pub length-closed_all : (ks : List ℕ) (slots : List (Option Held)) → length 
 length-closed_all [] slots = refl
 length-closed_all (k ∷ ks) slots = length-closed_all ks (set slots k None) ∙ length-set slots k None
 
--- So many gates have been written, and nothing was synced since.
+-- N gates have been written, and nothing was synced since.
 pub record GatesShut (n : ℕ) (before : List (Option Held)) (ks : List ℕ) (base : List ℕ) (c : Content) : Type 0 where
   pub flash : IsFlash n base
   pub holds : slots_of n base ≡ before
@@ -288,7 +288,7 @@ closes-more ks more before left so may = record {
   ];
 }
 
--- the power loss met gate i, or the sync behind the last one
+-- the power loss met gate i, or the sync after the last one
 pub closes-reached : (left : CallsLeft) (i : ℕ) (ks : List ℕ) (before slots : List (Option Held)) → (Fails i left → ⊥) → (Passes (i + 1) left → ⊥)
     → MayClose (take (i + 1) ks) before slots → MayClose (reached left ks) before slots
 closes-reached unknown i ks before slots not_before here may = closes-more (take (i + 1) ks) ks before slots (has_slot-take (i + 1) ks) may

@@ -6,7 +6,7 @@ use Rattle.medium_model.specs.State.{IfTold, told}
 use Rattle.medium_model.specs.PowerLoss.{EveryImage}
 use Rattle.medium_model.proofs.Images.{image-settled}
 
--- what is written right behind the end
+-- what is written right after the end
 written-behind : (at : ℕ) (bytes xs : List ℕ) → length xs ≡ at → written 0 at bytes xs ≡ xs ++ bytes
 written-behind at bytes xs size =
     let front : filled 0 at xs ≡ xs =

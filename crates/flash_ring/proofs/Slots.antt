@@ -90,7 +90,7 @@ pub known_ok : {T E P : Type 0} (r : Result T E) → IsOk r → OnOk r P → P
 known_ok (Ok x) is p = p
 known_ok (Err e) is p = absurd (false≢true is)
 
--- a body, part behind part
+-- a body, part after part
 pub laid_out : (id len : ℕ) (words rec unused a b c d e : List ℕ) → a ≡ [] ++ id ∷ [] → b ≡ a ++ len ∷ [] → c ≡ b ++ words → d ≡ c ++ rec → e ≡ d ++ unused
     → e ≡ id ∷ len ∷ words ++ (rec ++ unused)
 laid_out id len words rec unused a b c d e is_a is_b is_c is_d is_e =

@@ -18,7 +18,7 @@ as_open Fault.MediumFault = Open.MediumFault
 as_open (Fault.WrongSize got wanted) = Open.WrongSize got wanted
 as_open (Fault.BadSlot slot) = Open.BadSlot slot
 
--- the same of `open`, whose want of memory is free
+-- the same of `open`, whose out of memory is free
 abbrev pub RefusesOpen : ℕ → List ℕ → OpenFault → Type 0
 RefusesOpen n flash Open.MediumFault = Unit {0}
 RefusesOpen n flash (Open.WrongSize got wanted) = (got ≡ length flash) × (wanted ≡ 272 * n) × (got ≢ wanted)

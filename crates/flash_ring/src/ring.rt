@@ -44,7 +44,7 @@ pub enum PutFault {
 /// A ring of 1 to 4,096 slots on a medium, each for one record (this project's own).
 ///
 /// A record that was stored with Ok stays in every image that a power loss may leave, until its slot is closed. After a call
-/// that answered MediumFault the ring is down: `reopen` it, or take the medium.
+/// that returned MediumFault the ring is down: `reopen` it, or take the medium.
 #[derive(Drop)]
 pub struct Ring<M: Medium> {
     medium: M,

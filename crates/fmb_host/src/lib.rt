@@ -1,5 +1,5 @@
 //! What the program asks of the world: the host that hands out texts, lends the sink and keeps the outcome of a trial. It tells
-//! contracts how often it has failed. A host in memory stands in for the world in tests.
+//! contracts how often it has failed. A host in memory takes the place of the world in tests.
 #![tactic(auto)]
 
 mod host;

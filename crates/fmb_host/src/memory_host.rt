@@ -50,7 +50,7 @@ impl Model for MemoryHost {
 }
 
 impl MemoryHost {
-    /// A host of this sink, whose opens fail at the calls whose numbers, from 0, stand in `failing`, and where no text is
+    /// A host of this sink, whose opens fail at the calls whose numbers, from 0, are in `failing`, and where no text is
     /// left.
     pub fn new(alloc: Global, sink: MemorySink, failing: &[u64]) -> Result<MemoryHost, NoMemory>
         ensures { IfOk result (λ host. host ≡ new_host sink failing.now) }

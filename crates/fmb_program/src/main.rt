@@ -15,7 +15,7 @@ use std::alloc::{AllocError, Global};
 use std::process::ExitCode;
 use std::{env, io};
 
-/// The words behind the program's name. Words that are no UTF-8 are none that the program knows: there are none then.
+/// The words after the program's name. Words that are no UTF-8 are none that the program knows: there are none then.
 fn words_of(rt: &HostRuntime) -> Result<Vec<String>, AllocError> {
     let mut words = Vec::new(rt.alloc());
     match env::args(rt) {

@@ -1,6 +1,6 @@
 //! The program over any host: the words that it is started with, the text that it reads, and the status that it ends with.
 //! Each status has its cause and its printed line as clauses of `run`; the outcome of a trial that was played has all that every
-//! trial keeps, and of a capture all is printed that stands in it, up to its first fault.
+//! trial keeps, and of a capture all is printed that it has, up to its first fault.
 #![tactic(auto)]
 
 mod judging;

@@ -9,7 +9,7 @@ use Rattle.fmb_show.specs.declared.capture.ShowEnd.{ShowEnd}
 use Rattle.fmb_show.specs.declared.capture.ShowEnd.TheVariants.{Done, Fault, SinkFault, NoMemory}
 
 -- By the capture, or why the text is none, and the end: the sink before and after. A fault that ends the print decides before
--- the sink. Where memory ran out, what stands before the line that says so is what is shown of some first lines, each whole.
+-- the sink. Where memory ran out, what comes before the line that says so is what is shown of some first lines, each whole.
 pub record Showed (capture : Result (List LineValue) CaptureRefusal) (end : ShowEnd) (before after : SinkState) : Type 0 where
   pub done : end ≡ Done → ((capture_print capture).faulty ≡ false) × PrintsWhole (capture_print capture).text before after
   pub sink_steady : end ≡ Done → IsSteady before after

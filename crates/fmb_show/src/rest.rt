@@ -1,4 +1,4 @@
-//! The bytes behind the last whole item.
+//! The bytes after the last whole item.
 ghost use Rattle.std.specs.Prelude.{◌≡◌, ◌++◌, ℕ, List, OnOk, length};
 ghost use Rattle.fmb_show.specs.Shown.{short_print};
 

@@ -19,7 +19,7 @@ no_dashes (x ∷ xs) h = rw (ne_eqb x 45 h) refl
 pub no_short : (w : Text) → IsPlainWord w → short_of w ≡ None
 no_short w h = rw (no_hyphen w h) refl
 
--- the command behind a word's name is one whose parse is told whole
+-- the command after a word's name is one whose parse is told whole
 pub file_is_plain : (name : Text) → is_simple (file_app name) ≡ true
 unfolding file_app clap_on_literals
 file_is_plain name = refl

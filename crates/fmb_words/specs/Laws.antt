@@ -21,7 +21,7 @@ NoFileIsRefused = (word : List ℕ) → words_of (word ∷ []) ≡ None
 abbrev pub SecondFileIsRefused : Type 0
 SecondFileIsRefused = (word file second : List ℕ) (rest : List (List ℕ)) → IsPlainWord file → IsPlainWord second → words_of (word ∷ file ∷ second ∷ rest) ≡ None
 
--- Help isn't given, neither in place of a file nor behind it.
+-- Help isn't given, neither in place of a file nor after it.
 abbrev pub HelpIsRefused : Type 0
 HelpIsRefused = (word file help : List ℕ) (rest : List (List ℕ)) → IsPlainWord file → (help ≡ codes "--help") ⊎ (help ≡ codes "-h")
     → (words_of (word ∷ help ∷ rest) ≡ None) × (words_of (word ∷ file ∷ help ∷ rest) ≡ None)

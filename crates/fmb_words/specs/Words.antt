@@ -14,7 +14,7 @@ unless_fault (kind ∷ more) file = None
 unfoldable pub file_of : Text → List Text → Option Text
 file_of name words = unless_fault (fault_of (file_app name) words) (first_of (codes "FILE") (matches_of (file_app name) words))
 
--- what the words behind the program's name ask for; None where they are refused
+-- what the words after the program's name ask for; None where they are refused
 unfoldable pub words_of : List Text → Option WordsValue
 words_of [] = None
 words_of (word ∷ rest) =

@@ -10,7 +10,7 @@ use std::alloc::Global;
 /// A command line that was read.
 #[derive(Clone, Copy, Debug, PartialEq, Eq)]
 pub enum Words<'a> {
-    /// Print what stands in the capture of this name.
+    /// Print what is in the capture of this name.
     Show { file: &'a str },
     /// Play the script of this name as a trial.
     Trial { file: &'a str },
@@ -37,7 +37,7 @@ fn command_of<'a>(alloc: Global, words: &'a [String]) -> Result<Words<'a>, Words
     }
 }
 
-/// Reads the words behind the program's name: `show FILE` or `trial FILE`. The first word names the command, and clap
+/// Reads the words after the program's name: `show FILE` or `trial FILE`. The first word names the command, and clap
 /// reads the rest.
 pub fn read_words<'a>(alloc: Global, words: &'a [String]) -> Result<Words<'a>, WordsFault>
     ensures read { IfOk result (λ read. words_of (map string_bytes words.entry.now) ≡ Some (value_of read)) }
@@ -46,7 +46,7 @@ pub fn read_words<'a>(alloc: Global, words: &'a [String]) -> Result<Words<'a>, W
     ensures refused { result ≢ Err WordsFault.NoMemory → ((result ≡ Err WordsFault.Refused) ↔ (words_of (map string_bytes words.entry.now) ≡ None)) }
     ensures unknown { names_command (map string_bytes words.entry.now) ≡ false → result ≡ Err WordsFault.Refused }
 
-    // a command and a plain word are read as they stand, unless memory is wanting
+    // a command and a plain word are read as they are, unless memory is wanting
     ensures plain { (file : List ℕ) → IsPlainWord file
         → (map string_bytes words.entry.now ≡ codes "show" ∷ file ∷ [] → IsReadAs (show file) result)
         × (map string_bytes words.entry.now ≡ codes "trial" ∷ file ∷ [] → IsReadAs (trial file) result) }

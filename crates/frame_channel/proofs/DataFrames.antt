@@ -97,7 +97,7 @@ taken old head body piece next =
           ∙ ap (λ (b : Bool). (let s : Reader = record { have = []; after_first = b; failed = old.failed; body = body } in s)) place;
     }
 
--- a body behind the first eight bytes of a buffer
+-- a body after the first eight bytes of a buffer
 pub lent : (last body behind : List ℕ) → 8 ≤ length last → take (length body) (drop 8 (take 8 last ++ (body ++ behind))) ≡ body
 lent last body behind room =
     let front = take 8 last in

@@ -75,7 +75,7 @@ pub count_judged : (n : ℕ) (field : List ℕ) → length field ≡ 4 → numbe
 count_judged n field four value some =
     ap (judge count_rows 0) (sym (append-nil field)) ∙ behind_count false n field [] four value some ∙ judge_done (count n) 4 []
 
--- behind four zero bytes the verdict is that on a frame
+-- after four zero bytes the verdict is that on a frame
 
 abbrev pub says_down_frame : Said → DownValue
 says_down_frame f = order f.1

@@ -30,7 +30,7 @@ Said = BodyKind × List ℕ
 abbrev pub says : BodyKind → List ℕ → Said
 says kind body = (kind, body)
 
--- the parts of a frame: what stands before the body, or the length alone; the body; the checksum
+-- the parts of a frame: what comes before the body, or the length alone; the body; the checksum
 
 pub head_is : (way : Way) → way_rows way ≡ within 8 (with_bytes [] (head_rows way)) (λ b. after_part way [] b.0)
 unfolding frame_rows length_rows within with_bytes

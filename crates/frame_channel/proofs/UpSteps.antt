@@ -38,7 +38,7 @@ abbrev pub in_login : (m : Machine LoginPlace) (bytes : List ℕ) → login_mach
     → InPart login_left StandsInLogin (login_rows login_end) imei_rows (λ b. login_end b.0) m 0 17 bytes
 in_login m bytes h = first_part (login_rows login_end) imei_rows (λ b. login_end b.0) 17 login_left SaysNumber StandsInLogin login_leaves m bytes login_is h
 
--- behind a login the verdict is that on a frame
+-- after a login the verdict is that on a frame
 
 abbrev pub says_up : Said → UpValue
 says_up f = frame_value f.0 f.1

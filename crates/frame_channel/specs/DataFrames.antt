@@ -8,7 +8,7 @@ use Rattle.frame_layout.specs.Items.{IsFrame}
 use Rattle.frame_layout.specs.declared.body_kind.BodyKind.TheVariants.{Packet}
 use Rattle.record_layout.specs.declared.head.PacketHead.{PacketHead}
 
--- the frame of this body, which says this first, stands whole at the front
+-- the frame of this body, which says this first, is whole at the front
 pub record BeginsWith (head : PacketHead) (body bytes : List ℕ) : Type 0 where
   pub fits : 12 + length body ≤ length bytes
   pub is : IsFrame Up (Packet head) body (take (12 + length body) bytes)

@@ -20,7 +20,7 @@ use Rattle.frame_channel.specs.declared.frame_machine.FrameMachine.{FrameMachine
 abbrev pub InCount : Machine CountPlace → List ℕ → Type 0
 InCount m bytes = count_machine.HasTaken count_left StandsInCount m 4 four_rows bytes
 
--- behind four zero bytes
+-- after four zero bytes
 pub record InFrame (m : FrameMachine) (bytes : List ℕ) : Type 0 where
   pub zeros : List ℕ
   pub more : List ℕ

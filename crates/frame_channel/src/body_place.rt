@@ -58,7 +58,7 @@ impl Place for BodyPlace {
     }
 }
 
-/// What stands after a command's codec id.
+/// What follows a command's codec id.
 fn after_command_codec(way: Way, total: u32, value: u64) -> Result<BodyPlace, FaultKind>
     requires { value < 256 }
     ensures { (here : Rows BodyKind) → (field : List ℕ) → length field ≡ 1 → Reads field value → here ≡ command_body_rows way total → Follows StandsAt here field result }
@@ -69,7 +69,7 @@ fn after_command_codec(way: Way, total: u32, value: u64) -> Result<BodyPlace, Fa
     }
 }
 
-/// What stands after a body's codec id: up the rest of a data body where the id is one of its codecs', and else that of a command.
+/// What follows a body's codec id: up the rest of a data body where the id is one of its codecs', and else that of a command.
 fn after_codec(way: Way, total: u32, value: u64) -> Result<BodyPlace, FaultKind>
     requires { value < 256 }
     ensures { (here : Rows BodyKind) → (field : List ℕ) → length field ≡ 1 → Reads field value → here ≡ body_kind_rows way total → Follows StandsAt here field result }

@@ -54,7 +54,7 @@ impl BodyReader {
     }
 
     /// Takes the next byte, in one step. The answer is the verdict on all bytes of the frame so far, or what is left of it
-    /// behind the body.
+    /// after the body.
     pub fn push<L: Ledger>(&mut self, byte: u8, steps: &mut Steps<L>) -> BodyStep
         requires { IsInBody self.old }
         ensures answers { (way : Way) (bytes : List ℕ) → InBody way self.old bytes → BodyAnswers way self.new (bytes ++ byte ∷ []) result }

@@ -1,4 +1,4 @@
-//! A data frame that stands whole in some bytes.
+//! A data frame that is whole in some bytes.
 ghost use Rattle.std.specs.Prelude.{◌≡◌, ◌∷◌, take, IfSome, IsTrue};
 ghost use Rattle.std.specs.Int.{to_be_bytes, w16, w32};
 ghost use Rattle.frame_channel.specs.DataFrames.{BeginsWith, BeginsWithBody};
@@ -21,7 +21,7 @@ fn front_of(length: u32) -> [u8; 8]
     [0, 0, 0, 0, a, b, c, d]
 }
 
-// The four bytes of a frame behind a body of this checksum.
+// The four bytes of a frame after a body of this checksum.
 fn end_of(crc: u16) -> [u8; 4]
     ensures { result ≡ 0 ∷ 0 ∷ to_be_bytes w16 crc }
 {
@@ -36,14 +36,14 @@ fn tells(length: u32, bytes: &[u8]) -> bool
     bytes.starts_with(&front_of(length))
 }
 
-// Whether a frame's bytes behind a body of this checksum begin these.
+// Whether a frame's bytes after a body of this checksum begin these.
 fn ends(crc: u16, behind: &[u8]) -> bool
     ensures { IsTrue result → take 4 behind.now ≡ 0 ∷ 0 ∷ to_be_bytes w16 crc }
 {
     behind.starts_with(&end_of(crc))
 }
 
-// The body of a frame, and what stands behind it, where all of the body is there.
+// The body of a frame, and what follows it, where all of the body is there.
 fn split(bytes: &[u8]) -> Option<(&[u8], &[u8])>
     ensures { IfSome result (λ parts. BeginsWithBody parts.0.now parts.1.now bytes.now) }
 {
@@ -58,7 +58,7 @@ fn split(bytes: &[u8]) -> Option<(&[u8], &[u8])>
     Some(rest.split_at(length as usize))
 }
 
-/// The data frame that stands whole at the front of these bytes, where one does. Otherwise there is a part of one, another item or
+/// The data frame that is whole at the front of these bytes, where there is one. Otherwise there is a part of one, another item or
 /// a fault. Of another item no more than its first bytes are looked at.
 pub fn data_frame(bytes: &[u8]) -> Option<DataFrame<'_>>
     ensures { IfSome result (λ frame. BeginsWith frame.head frame.body.now bytes.now) }

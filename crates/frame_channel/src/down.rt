@@ -66,7 +66,7 @@ impl Down {
         }
     }
 
-    /// Begins anew before the login's answer, also where it has answered Broken. The body is empty then.
+    /// Begins anew before the login's answer, also where it has returned Broken. The body is empty then.
     pub fn begin_login(&mut self)
         ensures { self.new ≡ fresh false }
     {
@@ -89,7 +89,7 @@ impl Down {
     }
 
     /// Takes bytes up to and including the one that decides the item, or the whole piece, and says how many. It must not have
-    /// answered Broken. The decision falls on the same byte however the stream is cut.
+    /// returned Broken. The decision falls on the same byte however the stream is cut.
     pub fn push(&mut self, piece: &[u8]) -> (usize, DownItem)
         requires { self.old.failed ≡ false }
         ensures pushed { PushedDown self.old self.new piece.now result.0 result.1 }
@@ -189,7 +189,7 @@ impl Down {
         &frame[8..frame.len() - 4]
     }
 
-    /// How many bytes it has of its unfinished item. Unless it has answered Broken they are fewer than 1,280, and no verdict on
+    /// How many bytes it has of its unfinished item. Unless it has returned Broken they are fewer than 1,280, and no verdict on
     /// them has come.
     pub fn have(&self) -> u32
         ensures is { result ≡ length self.now.have }
@@ -200,7 +200,7 @@ impl Down {
         self.held().len() as u32
     }
 
-    /// Whether it has answered Broken.
+    /// Whether it has returned Broken.
     pub fn failed(&self) -> bool
         ensures { result ≡ self.now.failed }
     {

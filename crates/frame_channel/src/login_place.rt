@@ -14,7 +14,7 @@ use field_machine::{Cursor, Left, Machine, Place};
 #[derive(Clone, Copy)]
 pub enum LoginPlace {
     Length,
-    /// A digit, with how many digits stand after it, and the number that those before it spell.
+    /// A digit, with how many digits come after it, and the number that those before it spell.
     Digit(u8, u64),
     End(Imei),
 }

@@ -94,7 +94,7 @@ impl Up {
         })
     }
 
-    /// Begins anew before a login, in the memory that it has, also where it has answered Broken. The body is empty then.
+    /// Begins anew before a login, in the memory that it has, also where it has returned Broken. The body is empty then.
     pub fn begin_login(&mut self)
         ensures { self.new ≡ fresh false }
     {
@@ -117,7 +117,7 @@ impl Up {
     }
 
     /// Takes bytes up to and including the one that decides the item, or the whole piece, and says how many. It must not have
-    /// answered Broken. The decision falls on the same byte however the stream is cut. A data frame that stands whole at the
+    /// returned Broken. The decision falls on the same byte however the stream is cut. A data frame that is whole at the
     /// piece's front is judged at once, and all else byte by byte.
     pub fn push(&mut self, piece: &[u8]) -> (usize, UpItem)
         requires { self.old.failed ≡ false }
@@ -130,7 +130,7 @@ impl Up {
         }
     }
 
-    // The data frame that stands whole at the front of a piece, where it is the next item.
+    // The data frame that is whole at the front of a piece, where it is the next item.
     fn next_frame<'a>(&self, piece: &'a [u8]) -> Option<DataFrame<'a>>
         ensures { IfSome result (λ frame. IsNext self.now frame.head frame.body.now piece.now) }
     {
@@ -232,7 +232,7 @@ impl Up {
         &self.last[8..8 + self.body_len]
     }
 
-    /// How many bytes it has of its unfinished item. Unless it has answered Broken they are fewer than the longest frame's, and no
+    /// How many bytes it has of its unfinished item. Unless it has returned Broken they are fewer than the longest frame's, and no
     /// verdict on them has come.
     pub fn have(&self) -> u32
         ensures is { result ≡ length self.now.have }
@@ -243,7 +243,7 @@ impl Up {
         self.held().len() as u32
     }
 
-    /// Whether it has answered Broken.
+    /// Whether it has returned Broken.
     pub fn failed(&self) -> bool
         ensures { result ≡ self.now.failed }
     {

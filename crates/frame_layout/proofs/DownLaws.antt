@@ -38,7 +38,7 @@ filled_answer v bytes p fills =
     let made : IsDownItem false (answer one.n) bytes = record { is = is; byte = byte } in
     subst (λ x. IsDownItem false x bytes) end.0 made
 
--- The frame of a command, behind its four zero bytes.
+-- The frame of a command, after its four zero bytes.
 
 abbrev says : BodyKind × List ℕ → DownValue
 says f = order f.1

@@ -70,7 +70,7 @@ body_taken {B = B} rows n v bytes p fills =
     } in
     subst (λ x. TakenBody rows n x bytes) end.0 made
 
--- what stands behind the four zero bytes of a frame
+-- what follows the four zero bytes of a frame
 
 abbrev pub behind_zeros : List ℕ → List ℕ
 behind_zeros body = bytes_high_first 4 (length body) ++ (body ++ checksum (crc_of body))

@@ -23,7 +23,7 @@ use Rattle.frame_layout.specs.UpRows.{login_end, up_frame_rows, up_rows}
 use Rattle.frame_layout.specs.Values.{DownValue, UpValue, answer, count, frame_value, login, order}
 use Rattle.frame_layout.specs.declared.body_kind.BodyKind.{BodyKind}
 
--- Where rows are short, their first field lacks bytes, or the rows behind it are short.
+-- Where rows are short, their first field lacks bytes, or the rows after it are short.
 
 record IsBehind {V : Type 0} (width : ℕ) (rule : List ℕ → Option FaultKind) (rest : List ℕ → Rows V) (place : ℕ) (bytes : List ℕ) : Type 0 where
   pub fits : width ≤ length bytes
@@ -45,7 +45,7 @@ short_row : {V : Type 0} (width : ℕ) (rule : List ℕ → Option FaultKind) (r
     → (length bytes < width) ⊎ IsBehind width rule rest place bytes
 short_row width rule rest place bytes e = short_by width rule rest place bytes e (cases_lt (length bytes) width)
 
--- so many bytes at the most behind a field
+-- N bytes at the most after a field
 few_behind : {V : Type 0} (width most : ℕ) (rule : List ℕ → Option FaultKind) (rest : List ℕ → Rows V) (place : ℕ) (bytes : List ℕ)
     → ((field : List ℕ) (p : ℕ) (xs : List ℕ) → rule field ≡ None → judge (rest field) p xs ≡ short → length xs < most)
     → judge (row width rule rest) place bytes ≡ short → length bytes < width + most
@@ -68,7 +68,7 @@ digits_few (suc k) n most rest place bytes each e =
     (λ field p xs passes inner. digits_few k (n * 10 + (number field - 48)) most rest p xs each inner) e in
     omega (arith, few)
 
--- a login that is short has at most so many bytes behind its 17
+-- a login that is short has at most N bytes after its 17
 pub login_few : {V : Type 0} (most : ℕ) (rest : ℕ → Rows V) (place : ℕ) (bytes : List ℕ) → ((imei p : ℕ) (xs : List ℕ) → judge (rest imei) p xs ≡ short → length xs < most)
     → judge (login_rows rest) place bytes ≡ short → length bytes < 17 + most
 unfolding login_rows
@@ -82,7 +82,7 @@ crc_few v crc place bytes e =
     few_behind 2 2 (λ field. fault_unless (number field == 0) CrcHigh) (λ _. crc_low_rows v crc) place bytes
     (λ field p xs passes inner. few_behind 2 0 (λ f. fault_unless (number f == crc) CrcMismatch) (λ _. done v) p xs (λ f q ys ok last. absurd (never v q ys last)) inner) e
 
--- a body that is short, or one that is whole with what is short behind it
+-- a body that is short, or one that is whole with what is short after it
 body_by : {B V : Type 0} (rows : Rows B) (n place : ℕ) (bytes : List ℕ) (next : B → ℕ → Verdict V) (v : Verdict B) → judge (body n rows) place bytes ≡ v
     → ((b : B) (k : ℕ) → next b k ≡ short → length (drop n bytes) < 4) → and_then v next ≡ short → length bytes < n + 4
 body_by rows n place bytes next (whole b k) is few e = omega (arith, few b k e, length-drop n bytes)

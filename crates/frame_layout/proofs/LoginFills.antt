@@ -1,4 +1,4 @@
--- Logins and what fills their rows, whatever stands behind them.
+-- Logins and what fills their rows, whatever comes after them.
 use Rattle.std.proofs.Common.{◌≡◌, ℕ, zero, suc, ◌+◌, ◌-◌, ◌*◌, ◌/◌, ◌%◌, ◌^◌, ◌<◌, ◌≤◌, ◌==◌, List, [], ◌∷◌, ◌++◌, true, refl, sym, ap, subst, ◌∙◌, arith, append_assoc, None}
 use Rattle.std.proofs.lemmas.Bool.Decides.{nat_tests}
 use Rattle.std.proofs.lemmas.List.{append-nil}
@@ -63,7 +63,7 @@ digits_take (suc k) j n rest v bytes p small fills =
       bytes_behind = t.bytes_behind;
     }
 
--- so many digits of a number, and what fills the rows behind them
+-- N digits of a number, and what fills the rows after them
 digits_fill : {V : Type 0} (k r n m : ℕ) (rest : ℕ → Rows V) (v : V) (more : List ℕ) → m < 10 ^ k → Fills (digit_rows r (n * 10 ^ k + m) rest) v more → Fills (digit_rows (k + r) n rest) v (decimal_places k m ++ more)
 unfolding digit_rows
 digits_fill zero r n m rest v more small fills =
@@ -90,19 +90,19 @@ digits_fill (suc k) r n m rest v more small fills =
 
 -- What fills the rows of a login.
 
--- behind the last digit
+-- after the last digit
 last_fill : {V : Type 0} (n : ℕ) (rest : ℕ → Rows V) (v : V) (more : List ℕ) → Fills (rest n) v more → Fills (digit_rows 0 (0 * 10 ^ 15 + n) rest) v more
 unfolding digit_rows
 last_fill n rest v more fills = let same : n ≡ 0 * 10 ^ 15 + n = omega arith in subst (λ m. Fills (rest m) v more) same fills
 
--- a login, and what fills the rows behind it
+-- a login, and what fills the rows after it
 pub login_fill : {V : Type 0} (rest : ℕ → Rows V) (imei : ℕ) (v : V) (more : List ℕ) → imei < 10 ^ 15 → Fills (rest imei) v more → Fills (login_rows rest) v (login_of imei ++ more)
 unfolding login_rows
 login_fill rest imei v more small fills =
     number_fill 2 (λ n. fault_unless (n == 15) LoginLength) (λ _. digit_rows 15 0 rest) v 15 (imei_text imei ++ more) (omega arith) (exactly 15 15 LoginLength refl)
     (digits_fill 15 0 0 imei rest v more small (last_fill imei rest v more fills))
 
--- the login at the front of what fills its rows, and what fills those behind it
+-- the login at the front of what fills its rows, and what fills those after it
 pub record TakenLogin {V : Type 0} (rest : ℕ → Rows V) (v : V) (bytes : List ℕ) : Type 0 where
   pub imei : ℕ
   pub more : List ℕ

@@ -1,5 +1,5 @@
--- What an item says at its place: up a login at the first, and behind it a frame with its body; down the login's answer at the
--- first, and behind it counts, and frames with their bodies.
+-- What an item says at its place: up a login at the first, and after it a frame with its body; down the login's answer at the
+-- first, and after it counts, and frames with their bodies.
 use Rattle.std.proofs.Common.{◌≡◌, ℕ, zero, suc, ◌+◌, ◌-◌, ◌*◌, ◌==◌, ◌&&◌, ◌⊎◌, inl, inr, Bool, true, false, List, [], ◌++◌, length, take, drop, None, if◌then◌else◌, sym, ap, ◌∙◌, arith, length-append, length-drop, append_assoc}
 use Rattle.std.specs.Prelude.{nat_le}
 use Rattle.std.proofs.Math.Seq.{drop-append_seam}
@@ -27,7 +27,7 @@ pub record SaysLogin (v : UpValue) : Type 0 where
   pub imei : ℕ
   pub value : v ≡ login imei
 
--- a frame's body is what stands between the eight bytes before it and the four behind it
+-- a frame's body is what comes between the eight bytes before it and the four after it
 pub record HoldsBody (body bytes : List ℕ) : Type 0 where
   pub size : length bytes ≡ 12 + length body
   pub body_is : take (length bytes - 12) (drop 8 bytes) ≡ body
@@ -70,7 +70,7 @@ body_says {B = B} rows n v bytes fills =
     let end = crc_size i.0 v (crc_of i.0.1) (drop n bytes) i.3 in
     (ap (λ (x : B × List ℕ). x.1) (sym end.0) ∙ s.1, omega (arith, end.1, i.1, length-drop n bytes))
 
--- the body of so many bytes behind the four of its length
+-- the body of N bytes after the four of its length
 record HoldsBehind (body bytes : List ℕ) : Type 0 where
   pub field : List ℕ
   pub more : List ℕ

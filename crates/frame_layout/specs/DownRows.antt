@@ -13,7 +13,7 @@ use Rattle.frame_layout.specs.Values.{DownValue, answer, count, order}
 unfoldable pub answer_rows : Rows DownValue
 answer_rows = number_row 1 (λ _. None) (λ n. done (answer n))
 
--- the frame of a command, behind its four zero bytes
+-- the frame of a command, after its four zero bytes
 unfoldable pub order_rows : Rows DownValue
 order_rows = map_value (λ f. order f.1) (length_rows (longest_body Down) (body_kind_rows Down))
 

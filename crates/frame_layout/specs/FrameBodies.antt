@@ -11,11 +11,11 @@ use Rattle.command_layout.specs.CommandRows.{command_rows}
 use Rattle.frame_layout.specs.declared.body_kind.BodyKind.{BodyKind}
 use Rattle.frame_layout.specs.declared.body_kind.BodyKind.TheVariants.{Packet, Command}
 
--- a command's body of so many bytes
+-- a command's body of N bytes
 abbrev pub command_body_rows : Way → ℕ → Rows BodyKind
 command_body_rows way total = map_value (λ _. Command) (command_rows way total)
 
--- a body of so many bytes: up a data body or a command, by the codec id, and down a command
+-- a body of N bytes: up a data body or a command, by the codec id, and down a command
 abbrev pub body_kind_rows : Way → ℕ → Rows BodyKind
 body_kind_rows Up total = either_rows (map_value Packet packet_rows) (command_body_rows Up total)
 body_kind_rows Down total = command_body_rows Down total
@@ -25,6 +25,6 @@ abbrev pub longest_body : Way → ℕ
 longest_body Up = 65535
 longest_body Down = 1268
 
--- the verdict on the first bytes of a body of so many bytes
+-- the verdict on the first bytes of a body of N bytes
 unfoldable pub body_verdict : Way → ℕ → List ℕ → Verdict BodyKind
 body_verdict way total bytes = judge (body total (body_kind_rows way total)) 0 bytes

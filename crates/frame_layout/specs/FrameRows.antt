@@ -16,7 +16,7 @@ crc_low_rows v crc = number_row 2 (λ n. fault_unless (n == crc) CrcMismatch) (�
 abbrev pub crc_rows : {V : Type 0} → V → ℕ → Rows V
 crc_rows v crc = number_row 2 (λ n. fault_unless (n == 0) CrcHigh) (λ _. crc_low_rows v crc)
 
--- a body of so many bytes, and its checksum
+-- a body of N bytes, and its checksum
 unfoldable pub body_rows : {B : Type 0} → (ℕ → Rows B) → ℕ → Rows (B × List ℕ)
 body_rows rows n = within n (with_bytes [] (rows n)) (λ b. crc_rows b (crc_of b.1))
 

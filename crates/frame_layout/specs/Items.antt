@@ -57,7 +57,7 @@ pub record IsCount (n : ℕ) (bytes : List ℕ) : Type 0 where
   pub some : 0 < n
   pub fits : n < 2 ^ 32
 
--- The items up: a login stands only at the first place, and frames only behind it.
+-- The items up: a login comes only at the first place, and frames only after it.
 abbrev pub IsUpItem : Bool → UpValue → List ℕ → Type 0
 IsUpItem false (login imei) bytes = IsLogin imei bytes
 IsUpItem false (packet head body) bytes = ⊥
@@ -66,7 +66,7 @@ IsUpItem true (login imei) bytes = ⊥
 IsUpItem true (packet head body) bytes = IsFrame Up (Packet head) body bytes
 IsUpItem true (response body) bytes = IsFrame Up Command body bytes
 
--- The items down: the answer stands only at the first place, and counts and frames only behind it.
+-- The items down: the answer comes only at the first place, and counts and frames only after it.
 abbrev pub IsDownItem : Bool → DownValue → List ℕ → Type 0
 IsDownItem false (answer n) bytes = IsAnswer n bytes
 IsDownItem false (count n) bytes = ⊥

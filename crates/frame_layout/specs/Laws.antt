@@ -40,7 +40,7 @@ DownVerdictStays = (after_answer : Bool) (bytes more : List ℕ) → (down_verdi
 abbrev pub NoDownItemBeginsAnother : Type 0
 NoDownItemBeginsAnother = (after_answer : Bool) (v w : DownValue) (a b x y : List ℕ) → IsDownItem after_answer v a → IsDownItem after_answer w b → a ++ x ≡ b ++ y → (a ≡ b) × (v ≡ w)
 
--- An item stands only at its place.
+-- An item comes only at its place.
 
 abbrev pub UpItemHasPlace : Type 0
 UpItemHasPlace = (after_login : Bool) (v : UpValue) (n : ℕ) (bytes : List ℕ) → up_verdict after_login bytes ≡ whole v n → after_login ≡ comes_later_up v

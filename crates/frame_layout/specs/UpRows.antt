@@ -9,7 +9,7 @@ use Rattle.frame_layout.specs.FrameRows.{frame_rows}
 use Rattle.frame_layout.specs.Logins.{login_rows}
 use Rattle.frame_layout.specs.Values.{UpValue, login, frame_value}
 
--- behind the digits of a login there is nothing more
+-- after the digits of a login there is nothing more
 abbrev pub login_end : ℕ → Rows UpValue
 login_end imei = done (login imei)
 

@@ -43,12 +43,12 @@ pub fn no_down_item_begins_another()
     ensures { NoDownItemBeginsAnother }
 {}
 
-/// A login stands only at the first place, and a frame only after it.
+/// A login comes only at the first place, and a frame only after it.
 pub fn up_item_has_place()
     ensures { UpItemHasPlace }
 {}
 
-/// The login's answer stands only at the first place, and a count or a frame only after it.
+/// The login's answer comes only at the first place, and a count or a frame only after it.
 pub fn down_item_has_place()
     ensures { DownItemHasPlace }
 {}

@@ -14,7 +14,7 @@ use avl_values::Imei;
 use crc_field::crc;
 use layout::put_all;
 
-/// Writes the frame of a data body, or of a command's body of one of the two ways, over what stood in `out`: four zero bytes,
+/// Writes the frame of a data body, or of a command's body of one of the two ways, over what was in `out`: four zero bytes,
 /// the body's length, the body, and its checksum. The body has at most 1,268 bytes.
 pub fn write_frame(body: &[u8], out: &mut ArrayVec<u8, 1280>)
     requires passes { (way : Way) × (kind : BodyKind) × IsFrameBody way kind body.now }

@@ -66,12 +66,12 @@ FaultEndsStream V = (first later : Rows V) (place : ℕ) (bytes more : List ℕ)
     judge rows 0 reading.rest ≡ fault kind at
     → (reading_of first later place (bytes ++ more) ≡ record reading { rest = reading.rest ++ more }) × (judge rows 0 (reading.rest ++ more) ≡ fault kind at)
 
--- Where an item stands whole at the front, it is read, and then the bytes after it.
+-- Where an item is whole at the front, it is read, and then the bytes after it.
 abbrev pub FrontIsRead : Type 0 → Type 0
 FrontIsRead V = (first later : Rows V) (place n : ℕ) (v : V) (bytes : List ℕ) → AreStreamRows first later → judge first 0 bytes ≡ whole v n
     → reading_of first later place bytes ≡ with_front (record { value = v; end = place + n }) (reading_of later later (place + n) (drop n bytes))
 
--- Where no item stands whole at the front, nothing is read.
+-- Where no item is whole at the front, nothing is read.
 abbrev pub NothingIsRead : Type 0 → Type 0
 NothingIsRead V = (first later : Rows V) (place : ℕ) (bytes : List ℕ) → IsNotWhole (judge first 0 bytes) → reading_of first later place bytes ≡ only_rest bytes
 

@@ -63,7 +63,7 @@ after_front (whole v n) bytes next = next v n
 after_front short bytes next = only_rest bytes
 after_front (fault kind place) bytes next = only_rest bytes
 
--- at most so many items: the whole item at the front, and then those of the bytes after it
+-- at most N items: the whole item at the front, and then those of the bytes after it
 unfoldable pub read_items : {V : Type 0} → ℕ → Rows V → Rows V → ℕ → List ℕ → Reading V
 read_items zero first later place bytes = only_rest bytes
 read_items (suc most) first later place bytes =

@@ -53,12 +53,12 @@ pub fn fault_ends_stream<V>()
     ensures { FaultEndsStream V }
 {}
 
-/// Where an item stands whole at the front, it is read, and then the bytes after it.
+/// Where an item is whole at the front, it is read, and then the bytes after it.
 pub fn front_is_read<V>()
     ensures { FrontIsRead V }
 {}
 
-/// Where no item stands whole at the front, nothing is read.
+/// Where no item is whole at the front, nothing is read.
 pub fn nothing_is_read<V>()
     ensures { NothingIsRead V }
 {}

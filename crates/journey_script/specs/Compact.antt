@@ -45,12 +45,12 @@ abbrev pub says : Result CompactLine ScriptFault → Result ScriptLine ScriptFau
 says (Ok line) = Ok (line_in line)
 says (Err fault) = Err fault
 
--- a fault is that of a line; want of memory says nothing
+-- a fault is that of a line; out of memory says nothing
 abbrev pub RefusesLine : {A : Type 0} → Result A ScriptFault → LineFault → Type 0
 RefusesLine said (LineFault.Fault kind) = said ≡ Err kind
 RefusesLine said LineFault.NoMemory = Unit {0}
 
--- what stands before the values of a `fix` line
+-- what comes before the values of a `fix` line
 abbrev pub head_says : Result FixHead ScriptFault → Result (List ℕ → ScriptLine) ScriptFault
 head_says (Ok head) = Ok (fix_with head.imei head.time head.gps.longitude head.gps.latitude head.gps.altitude head.gps.angle head.gps.satellites head.gps.speed head.odometer)
 head_says (Err fault) = Err fault

@@ -36,7 +36,7 @@ unfoldable pub script_of : List ℕ → Result Script Refusal
 script_of text =
     if nat_lt (2 ^ 24) (length text) then Err (record { line = 0; kind = TextTooLong }) else fold with_text_line (Ok []) (content_lines text)
 
--- a refusal is that of the text; want of memory says nothing
+-- a refusal is that of the text; out of memory says nothing
 abbrev pub Refuses : Result Script Refusal → ReadFault → Type 0
 Refuses told (Fault.Line line kind) = told ≡ Err (record { line = line; kind = kind })
 Refuses told Fault.NoMemory = Unit {0}

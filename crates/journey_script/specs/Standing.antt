@@ -22,7 +22,7 @@ enrolled_by state = record { codec = state.codec; settings = state.settings.item
 abbrev pub enrolled_at : Devices → ℕ → Option Enrolled
 enrolled_at devices imei = option_map enrolled_by (get nat_cmp devices imei)
 
--- a fault is that of a line; want of memory says nothing
+-- a fault is that of a line; out of memory says nothing
 abbrev pub RefusesLater : Option ScriptFault → LineFault → Type 0
 RefusesLater fault (LineFault.Fault kind) = fault ≡ Some kind
 RefusesLater fault LineFault.NoMemory = Unit {0}

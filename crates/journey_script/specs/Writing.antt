@@ -40,6 +40,6 @@ abbrev pub written_lines : ℕ → Script → List (List ℕ)
 written_lines number [] = []
 written_lines number (line ∷ lines) = replicate (line.0 - number) [] ++ spelled line.1 ∷ written_lines (line.0 + 1) lines
 
--- the text: LF stands between two lines, and not after the last one
+-- the text: LF comes between two lines, and not after the last one
 unfoldable pub written : Script → List ℕ
 written script = join_with_byte 10 (written_lines 1 script)

@@ -14,9 +14,9 @@ pub enum ScriptFault {
     UnknownWord,
     /// The number of fields isn't the line's; of a `fix` line, there are fewer than nine after the word.
     FieldCount,
-    /// Not 15 digits, and not `server` where that may stand.
+    /// Not 15 digits, and not `server` where that may be.
     BadImei,
-    /// Not one of the words that may stand there.
+    /// Not one of the words that may be there.
     BadChoice,
     /// Not a number, or out of its range.
     BadNumber,

@@ -13,7 +13,7 @@ use avl_values::{Gps, Imei};
 use std::alloc::Global;
 use std::boxed::Box;
 
-/// What stands before the values.
+/// What comes before the values.
 #[derive(Clone, Copy)]
 pub struct FixHead {
     pub imei: Imei,

@@ -1,4 +1,4 @@
-//! A trial's script: read from text, written as text, and made from a seed. The grammar stands in `specs/Table.antt`, one row for
+//! A trial's script: read from text, written as text, and made from a seed. The grammar is in `specs/Table.antt`, one row for
 //! each kind of line; `specs/Grammar.antt` says which text is a script, and what the first fault of another is.
 #![tactic(auto)]
 

@@ -29,7 +29,7 @@ impl LineWord {
         LineWord::Io,
     ];
 
-    /// The word as it stands in a script.
+    /// The word as it is in a script.
     pub fn name(self) -> &'static str
         ensures { result.now ≡ word_name self }
     {

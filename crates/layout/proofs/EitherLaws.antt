@@ -1,4 +1,4 @@
--- What fills rows of which either may stand, and the verdicts on a body of them.
+-- What fills rows of which either may be, and the verdicts on a body of them.
 use Rattle.std.proofs.Common.{◌≡◌, ℕ, ◌⊎◌, inl, inr, List, ◌++◌, length, take, Option, Some, None, refl, sym, ap, subst, ◌∙◌}
 use Rattle.std.proofs.Math.Seq.{take-append_seam}
 use Rattle.avl_values.specs.declared.fault.FaultKind.{FaultKind}

@@ -1,4 +1,4 @@
--- A fault's place is within the bytes, or just behind them.
+-- A fault's place is within the bytes, or just after them.
 use Rattle.std.proofs.Common.{◌≡◌, ℕ, ◌+◌, ◌<◌, ◌≤◌, ◌⊎◌, inl, inr, List, length, take, drop, Option, Some, None, sym, ◌∙◌, arith, length-drop}
 use Rattle.std.proofs.lemmas.Bool.{cases_lt}
 use Rattle.avl_values.specs.declared.fault.FaultKind.{FaultKind}

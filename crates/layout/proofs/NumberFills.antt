@@ -8,7 +8,7 @@ use Rattle.layout.specs.Rows.{Rows, Fills}
 use Rattle.layout.proofs.Filling.{fills_row, row_filled}
 use Rattle.layout.proofs.Numbers.{bytes-back, bytes-front, length_spell, number_bound, number_spell, spell_number}
 
--- the number at the front of what fills a field and the rows behind it
+-- the number at the front of what fills a field and the rows after it
 pub record TakenNumber {V : Type 0} (k : ℕ) (rule : ℕ → Option FaultKind) (rest : ℕ → Rows V) (v : V) (bytes : List ℕ) : Type 0 where
   pub n : ℕ
   pub more : List ℕ

@@ -32,7 +32,7 @@ step_fault {V = V} (row n rule rest) w place kind bytes e fits fails =
     let P : ℕ → Type 0 = λ k. judge (row k rule rest) place bytes ≡ fault kind place in
     subst P (sym (width_is n w e)) (judge_long w rule rest place bytes fits ∙ ap (λ o. unless_fault o place (judge (rest (take w bytes)) (place + w) (drop w bytes))) fails)
 
--- Rows as a body with so many bytes left.
+-- Rows as a body with N bytes left.
 
 pub body_width : {V : Type 0} (rows : Rows V) (w room : ℕ) → width_of rows ≡ Some w → w ≤ room → width_of (body room rows) ≡ Some w
 body_width (done v) w room e fits = absurd (cc)

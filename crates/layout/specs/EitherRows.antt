@@ -1,4 +1,4 @@
--- Rows of which either may stand, by their first field (this project's own).
+-- Rows of which either may be, by their first field (this project's own).
 use Rattle.std.specs.Prelude.{Option, Some, None}
 use Rattle.avl_values.specs.declared.fault.FaultKind.{FaultKind}
 use Rattle.layout.specs.Rows.{Rows, done, refuse, row}
@@ -9,7 +9,7 @@ abbrev pub either_rule : Option FaultKind → Option FaultKind → Option FaultK
 either_rule None other = None
 either_rule (Some kind) other = other
 
--- what stands behind it: the first rows' rest where it keeps their rule, else that of the others
+-- what follows it: the first rows' rest where it keeps their rule, else that of the others
 abbrev pub either_rest : {V : Type 0} → Option FaultKind → Rows V → Rows V → Rows V
 either_rest None rest other = rest
 either_rest (Some kind) rest other = other

@@ -20,7 +20,7 @@ any width rest = row width (λ _. None) (λ _. rest)
 abbrev pub number_row : {V : Type 0} → ℕ → (ℕ → Option FaultKind) → (ℕ → Rows V) → Rows V
 number_row width rule rest = row width (λ field. rule (number field)) (λ field. rest (number field))
 
--- rows that stand so many times
+-- rows that stand N times
 abbrev pub times : {V : Type 0} → ℕ → (Rows V → Rows V) → Rows V → Rows V
 times zero rows rest = rest
 times (suc n) rows rest = rows (times n rows rest)

@@ -19,7 +19,7 @@ FilledIsWhole V = (rows : Rows V) (place : ℕ) (v : V) (bytes more : List ℕ) 
 abbrev pub NoneBeginsAnother : Type 0 → Type 0
 NoneBeginsAnother V = (rows : Rows V) (v w : V) (a b x y : List ℕ) → Fills rows v a → Fills rows w b → a ++ x ≡ b ++ y → (a ≡ b) × (v ≡ w)
 
--- What fills a body of so many bytes and what follows it fills the rows with so many bytes, and then what follows.
+-- What fills a body of N bytes and what follows it fills the rows with N bytes, and then what follows.
 abbrev pub WithinFilled : Type 0 → Type 0 → Type 0
 WithinFilled V W = (room : ℕ) (rows : Rows V) (after : V → Rows W) (w : W) (bytes : List ℕ) → Fills (within room rows after) w bytes
     → (v : V) × (room ≤ length bytes) × Fills rows v (take room bytes) × Fills (after v) w (drop room bytes)

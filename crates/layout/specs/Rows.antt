@@ -5,7 +5,7 @@ use Rattle.avl_values.specs.declared.fault.FaultKind.{FaultKind}
 use Rattle.avl_values.specs.declared.fault.FaultKind.TheVariants.{Overrun, Excess}
 
 -- What an item is from here on: nothing more, and the item says this value; a rule that fails before any further byte;
--- or a field of so many bytes, with a rule that its bytes may break, and what comes after these bytes.
+-- or a field of N bytes, with a rule that its bytes may break, and what comes after these bytes.
 pub data Rows (V : Type 0) : Type 0 where
   done : V → Rows V
   refuse : FaultKind → Rows V
@@ -37,7 +37,7 @@ Fills (refuse kind) v bytes = ⊥
 Fills (row width rule rest) v bytes =
     (field : List ℕ) × (more : List ℕ) × (bytes ≡ field ++ more) × (length field ≡ width) × (rule field ≡ None) × Fills (rest field) v more
 
--- The rows as a body of so many bytes, and what comes after it. A field that would pass the body's end is an overrun. Where
+-- The rows as a body of N bytes, and what comes after it. A field that would pass the body's end is an overrun. Where
 -- the rows end the body ends.
 unfoldable pub within : {V W : Type 0} → ℕ → Rows V → (V → Rows W) → Rows W
 within room (done v) after = if room == 0 then after v else refuse Excess
@@ -46,6 +46,6 @@ within room (row width rule rest) after =
     if nat_lt room width then refuse Overrun
     else row width rule (λ field. within (room - width) (rest field) after)
 
--- a body of so many bytes, and nothing after it
+-- a body of N bytes, and nothing after it
 abbrev pub body : {V : Type 0} → ℕ → Rows V → Rows V
 body room rows = within room rows (λ v. done v)

@@ -21,7 +21,7 @@ pub fn none_begins_another<V>()
     ensures { NoneBeginsAnother V }
 {}
 
-/// What fills a body of so many bytes and what follows it, fills the body's rows with just so many bytes.
+/// What fills a body of N bytes and what follows it, fills the body's rows with just N bytes.
 pub fn within_filled<V, W>()
     ensures { WithinFilled V W }
 {}

@@ -8,7 +8,7 @@ use Rattle.fault_plan.specs.Plan.{after_call}
 use Rattle.links.specs.Going.{same_traffic, goes_on_failed}
 use Rattle.links.specs.Memory.{MemoryLinkState, GoesOn, after_failure, after_read}
 
--- with so many bytes taken from those that were left
+-- with N bytes taken from those that were left
 abbrev moved : ℕ → MemoryLinkState → MemoryLinkState
 moved n link = record link { taken = link.taken ++ take n link.left; left = drop n link.left }
 
@@ -23,7 +23,7 @@ pub read_state : (incoming : List ℕ) (at n : ℕ) (inside before : MemoryLinkS
     → at_place incoming (at + n) inside ≡ after_read n before
 read_state incoming at n inside before is = advanced incoming at n inside ∙ ap (λ (s : MemoryLinkState). moved n s) is
 
--- what stands first in the slice
+-- what comes first in the slice
 pub front_copied : (n : ℕ) (left into copied : List ℕ) → n ≤ length left → copied ≡ take n left ++ drop n into → take n copied ≡ take n left
 front_copied n left into copied le is =
     let size : length (take n left) ≡ n = length-take-le n left le in

@@ -42,7 +42,7 @@ later_then a b c p q = record {
   faults = omega (arith, p.faults, q.faults);
 }
 
--- Parts of a buffer that were written, one behind the other.
+-- Parts of a buffer that were written, one after the other.
 
 -- a slice from a place on
 pub rest_whole : (d : ℕ) (bytes : List ℕ) → take (length bytes - d) (drop d bytes) ≡ drop d bytes

@@ -1,4 +1,4 @@
--- How a link in memory goes on: no call, one call, and calls behind calls.
+-- How a link in memory goes on: no call, one call, and calls after calls.
 use Rattle.std.proofs.Common.{◌≡◌, ℕ, ◌≤◌, List, [], ◌++◌, take, Some, refl, sym, ap, ◌∙◌, append_assoc, append-nil, arith}
 use Rattle.std.proofs.lemmas.List.{take-append-drop}
 use Rattle.avl_values.specs.Causes.{more_by_one}

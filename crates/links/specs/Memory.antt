@@ -27,11 +27,11 @@ link_state link = record { told = Some record { taken = link.taken; written = li
 abbrev pub IsChosen : MemoryLinkState → Type 0
 IsChosen link = FailsNext link.plan
 
--- so many bytes more than may be written
+-- N bytes more than may be written
 abbrev pub PassesRoom : MemoryLinkState → ℕ → Type 0
 PassesRoom link count = link.room < length link.written + count
 
--- how many bytes a read into so many places gives
+-- how many bytes a read into N places gives
 abbrev pub given : MemoryLinkState → ℕ → ℕ
 given link places = min (min link.piece places) (length link.left)
 
@@ -39,7 +39,7 @@ given link places = min (min link.piece places) (length link.left)
 abbrev pub after_failure : MemoryLinkState → MemoryLinkState
 after_failure link = record link { plan = after_call link.plan; faults = more_by_one link.faults }
 
--- a read that gave so many bytes
+-- a read that gave N bytes
 abbrev pub after_read : ℕ → MemoryLinkState → MemoryLinkState
 after_read n link = record link { taken = link.taken ++ take n link.left; left = drop n link.left; plan = after_call link.plan }
 
@@ -47,7 +47,7 @@ after_read n link = record link { taken = link.taken ++ take n link.left; left =
 abbrev pub after_write : List ℕ → MemoryLinkState → MemoryLinkState
 after_write bytes link = record link { written = link.written ++ bytes; plan = after_call link.plan }
 
--- What further calls may do to it: it takes from what was left, writes behind what was written, and counts.
+-- What further calls may do to it: it takes from what was left, writes after what was written, and counts.
 pub record GoesOn (before after : MemoryLinkState) : Type 0 where
   pub taken : List ℕ
   pub written : List ℕ

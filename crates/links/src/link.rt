@@ -12,7 +12,7 @@ pub trait Link: Drop {
     /// What further calls may do to it.
     ghost follows: { Self → Self → Type 0 };
 
-    /// How often it has failed. The count never falls, and stands still at its type's end.
+    /// How often it has failed. The count never falls, and stays at its type's greatest value.
     fn faults(&self) -> u64
         ensures count { result ≡ (state self.now).faults };
 
@@ -40,9 +40,9 @@ pub trait Link: Drop {
     /// No calls at all are further calls, too.
     ghost follows_none: { (link : Self) → follows link link };
 
-    /// Further calls behind further calls.
+    /// Further calls after further calls.
     ghost follows_then: { (a b c : Self) → follows a b → follows b c → follows a c };
 
-    /// Whatever calls do, bytes only come behind those that were told, and the count never falls.
+    /// Whatever calls do, bytes only come after those that were told, and the count never falls.
     ghost follows_later: { (a b : Self) → follows a b → IsLater (state a) (state b) };
 }

@@ -44,7 +44,7 @@ impl Model for MemoryLink {
     ghost invariant = { λ l. (l.at ≤ vec_len l.incoming) × (0 < l.piece) × (vec_len l.written ≤ l.room) × (l.room ≤ vec_capacity l.written) };
 }
 
-/// Copies bytes from a place on into the slice, at most so many, and says how many.
+/// Copies bytes from a place on into the slice, at most N, and says how many.
 fn copy_piece(bytes: &[u8], at: usize, most: usize, into: &mut [u8]) -> usize
     requires { at ≤ length bytes.now }
     ensures count { result ≡ min (min most (length into.old)) (length (drop at bytes.now)) }
@@ -58,7 +58,7 @@ fn copy_piece(bytes: &[u8], at: usize, most: usize, into: &mut [u8]) -> usize
 impl MemoryLink {
     /// A link that gives these bytes, at most `piece` at a read, and then is at its end. It has room for `room` bytes that are
     /// written, which it takes at once. Reads and writes are numbered together from 0. A call fails, and counts, exactly where
-    /// its number stands in `failing`, and a write also where its bytes would pass the room.
+    /// its number is in `failing`, and a write also where its bytes would pass the room.
     pub fn new(
         alloc: Global,
         incoming: &[u8],

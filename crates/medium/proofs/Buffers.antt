@@ -30,7 +30,7 @@ set-more {d = d} {at = at} {n = n} {f = f} {before = before} {after = after} so 
   ];
 }
 
--- the place of an element, before, in or behind a range
+-- the place of an element, before, in or after a range
 pub data Place (at n k : ℕ) : Type 0 where
   ahead : k < at → Place at n k
   inside : (j : ℕ) → j < n → at + j ≡ k → Place at n k
@@ -111,7 +111,7 @@ seen-marked at n end new_end earlier after was padded fits so is view =
     let size = so.size in
     cc
 
--- the marks of a range stand in the spans with the range added
+-- the marks of a range are in the spans with the range added
 pub marked-more : (at n : ℕ) (end new_end : ℕ) (span : Span) (spans more : List Span) (earlier after : List Bool)
     → IsMarked spans end earlier → at + n ≤ length earlier → SetFrom false at n (λ _. true) earlier after → new_end ≡ max end (at + n)
     → HasMore span spans more → span.first ≡ at → span.end ≡ at + n → IsMarked more new_end after

@@ -42,7 +42,7 @@ end-end e xs s ends last = record { each = go xs (λ i d low. ends.each i d low)
     go (x ∷ xs) all zero d low = all 0 d (omega arith)
     go (x ∷ xs) all (suc i) d low = go xs (λ j e2 l. all (suc j) e2 (omega arith)) i d (omega arith)
 
--- a span behind the others
+-- a span after the others
 pub pushed-more : (xs : List Span) (s : Span) → HasMore s xs (xs ++ s ∷ [])
 pushed-more xs s = record {
   covers = λ k out. (outside-push xs s k out).0;

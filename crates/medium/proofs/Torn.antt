@@ -50,7 +50,7 @@ module _ (c d : Content) (at n : ℕ) (image : List ℕ)
     clean = λ k clean. torn.clean k (clean_then k clean).1 ∙ sym (ap (λ (b : List ℕ). get_or b k 0) durable);
   }
 
-  -- an image that the write reached, with at most so many bytes
+  -- an image that the write reached, with at most N bytes
   pub torn-written : (bytes : List ℕ) → length bytes ≤ n → IsTornImage d (written 0 at bytes image)
   torn-written bytes few = record {
     no_shorter = let same = ap length durable in omega (arith, torn.no_shorter, length-written 0 at bytes image);

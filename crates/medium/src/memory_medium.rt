@@ -15,7 +15,7 @@ use std::alloc::Global;
 use std::marker::Model;
 
 /// A medium in memory that fails at chosen calls. The calls of `len`, `read`, `write` and `sync` are counted from 0; a count
-/// at its type's end stands still. A write that fails changes nothing that a read gives.
+/// stays at its type's greatest value. A write that fails changes nothing that a read gives.
 #[derive(Drop)]
 pub struct MemoryMedium {
     content: MemoryContent,

@@ -3,7 +3,7 @@
 pub enum Power {
     /// No call will fail.
     Unarmed,
-    /// So many calls pass, and the one after them is the power loss.
+    /// N calls pass, and the one after them is the power loss.
     Armed(u64),
     /// Each call fails until the restart.
     Lost,

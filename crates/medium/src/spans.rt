@@ -104,7 +104,7 @@ pub fn copy_spans(into: &mut [u8], from: &[u8], spans: &[Span])
     }
 }
 
-/// Takes all marks away, which stand only in these spans.
+/// Takes all marks away, which come only in these spans.
 pub fn unmark(marks: &mut [bool], spans: &[Span])
     requires fits { EndBy (length marks.old) spans.now }
     requires outside { (k : ℕ) → IsOutside spans.now k → get_or marks.old k false ≡ false }

@@ -11,7 +11,7 @@ use Rattle.medium_model.specs.State.{MediumState, IfTold, TornWrite, Counted, Is
 use Rattle.medium_model.specs.Images.{HoldsWith, IsSettled, IsDurable}
 use Rattle.medium_model.specs.PowerLoss.{IsImage, EveryImage, WasImage}
 
--- what is durable whole stands alone
+-- what is durable whole is alone
 pub image-settled : (xs image : List ℕ) → IsImage (settled xs) image → image ≡ xs
 image-settled xs image is =
     ext_get_or 0 image xs (omega (arith, is.no_shorter, is.no_longer)) (λ k low. is.stays k (omega (arith, is.no_shorter, is.no_longer)) refl)

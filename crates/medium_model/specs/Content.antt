@@ -2,7 +2,7 @@
 use Rattle.std.specs.Prelude.{◌≡◌, ℕ, ◌+◌, ◌-◌, ◌<◌, ◌≤◌, max, Bool, true, false, List, [], ◌++◌, length, get_or, take, drop, replicate}
 
 -- What a read gives, what the last sync made durable, and which bytes were written since: after a power loss these may
--- hold anything, and the end may stand anywhere between the old end and the greatest end written.
+-- hold anything, and the end may be anywhere between the old end and the greatest end written.
 pub record Content : Type 0 where
   pub reads : List ℕ
   pub durable : List ℕ

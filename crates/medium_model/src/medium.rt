@@ -28,7 +28,7 @@ pub trait Medium: Drop {
     /// What contracts see of it.
     ghost state: { Self → MediumState };
 
-    /// How often it has failed. The count never falls, and stands still at its type's end. At every moment, what is read is
+    /// How often it has failed. The count never falls, and stays at its type's greatest value. At every moment, what is read is
     /// one of the images that a power loss may leave.
     fn faults(&self) -> u64
         ensures count { result ≡ (state self.now).faults }

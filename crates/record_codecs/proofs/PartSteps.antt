@@ -62,7 +62,7 @@ pub failed : (w : ℕ) (rule : List ℕ → Option FaultKind) (rest : List ℕ �
 failed w rule rest bytes kind h fails = λ place.
     ap end_of (judge_long w rule rest place bytes h) ∙ ap (λ o. end_of (unless_fault o place (judge (rest (take w bytes)) (place + w) (drop w bytes)))) fails
 
--- the code's bytes are those behind the row
+-- the code's bytes are those after the row
 pub past_any : (w : ℕ) (rows : Rows Nothing) (bytes rest : List ℕ) → w ≤ length bytes → rest ≡ drop w bytes → EndsWith (any w rows) bytes rows rest
 past_any w rows bytes rest h is = subst (λ r. EndsWith (any w rows) bytes rows r) (sym is) (passed w (λ _. None) (λ _. rows) bytes h refl)
 
@@ -76,7 +76,7 @@ past_number w rule rows bytes rest n h value is passes =
 pub bad_number : (w : ℕ) (rule : ℕ → Option FaultKind) (rows : ℕ → Rows Nothing) (bytes : List ℕ) (n : ℕ) (kind : FaultKind) → w ≤ length bytes → n ≡ number (take w bytes) → rule n ≡ Some kind → HasNoEnd (number_row w rule rows) bytes
 bad_number w rule rows bytes n kind h value fails = failed w (λ f. rule (number f)) (λ f. rows (number f)) bytes kind h (ap rule (sym value) ∙ fails)
 
--- So many pairs.
+-- N pairs.
 
 size_next : (n size : ℕ) → suc n * size ≡ size + n * size
 size_next n size = omega arith
@@ -128,7 +128,7 @@ skips_pairs now (Some rest) n size id value rows bytes is h =
 
 -- One triple, step by step.
 
--- what is left behind a triple's id
+-- what is left after a triple's id
 abbrev pub behind_id : Width → Rows Nothing → Rows Nothing
 behind_id len more = number_row (bytes_of len) (λ _. None) (λ k. any k more)
 

@@ -174,7 +174,7 @@ four_past : (codec : Codec) (a b c d : List (ℕ × ℕ)) (more : List ℕ) → 
 four_past codec a b c d more fit =
     group_past codec W1 (W2 ∷ W4 ∷ W8 ∷ []) a _ fit.few_a ∙ group_past codec W2 (W4 ∷ W8 ∷ []) b _ fit.few_b ∙ group_past codec W4 (W8 ∷ []) c _ fit.few_c ∙ group_past codec W8 [] d more fit.few_d
 
--- what a record has behind its head
+-- what a record has after its head
 tail_of : Codec → RecordValue → List ℕ
 tail_of C8 v = []
 tail_of C8E v = (spell W2 (length v.nx) ++ flat_map (triple_bytes W2 W2) v.nx) ++ []

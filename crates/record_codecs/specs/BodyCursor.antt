@@ -11,7 +11,7 @@ use Rattle.record_codecs.specs.declared.place.PacketPlace.{PacketPlace}
 use Rattle.record_codecs.specs.declared.place.PacketPlace.TheVariants as at
 use Rattle.record_codecs.specs.RecordCursor.{rows_in, width_in}
 
--- so many records, and the second number of records
+-- N records, and the second number of records
 abbrev pub records_left : PacketHead → ℕ → Rows PacketHead
 records_left head n = times n (record_rows head.codec) (last_count head)
 

@@ -14,24 +14,24 @@ use Rattle.record_layout.specs.Table.{count_width, id_width}
 abbrev pub all_widths : List Width
 all_widths = W1 ∷ W2 ∷ W4 ∷ W8 ∷ []
 
--- the number at the front, and the bytes behind it
+-- the number at the front, and the bytes after it
 abbrev pub front_number : Width → List ℕ → ℕ
 front_number width bytes = number (take (bytes_of width) bytes)
 
 abbrev pub behind : Width → List ℕ → List ℕ
 behind width bytes = drop (bytes_of width) bytes
 
--- so many pairs of id and value at the front
+-- N pairs of id and value at the front
 abbrev pub pairs_in : Codec → Width → ℕ → List ℕ → List IoElement
 pairs_in codec width zero bytes = []
 pairs_in codec width (suc n) bytes =
     record { id = front_number (id_width codec) bytes; width = width; value = front_number width (behind (id_width codec) bytes) } ∷ pairs_in codec width n (behind width (behind (id_width codec) bytes))
 
--- and the bytes behind them
+-- and the bytes after them
 abbrev pub behind_pairs : Codec → Width → ℕ → List ℕ → List ℕ
 behind_pairs codec width n bytes = drop (n * (bytes_of (id_width codec) + bytes_of width)) bytes
 
--- the elements of the groups of these widths, each a count and so many pairs
+-- the elements of the groups of these widths, each a count and N pairs
 abbrev pub groups_in : Codec → List Width → List ℕ → List IoElement
 groups_in codec [] bytes = []
 groups_in codec (w ∷ ws) bytes =
@@ -43,7 +43,7 @@ abbrev pub behind_groups : Codec → List Width → List ℕ → List ℕ
 behind_groups codec [] bytes = bytes
 behind_groups codec (w ∷ ws) bytes = behind_groups codec ws (behind_pairs codec w (front_number (count_width codec) bytes) (behind (count_width codec) bytes))
 
--- so many elements of any length at the front, each an id, a length and so many bytes
+-- N elements of any length at the front, each an id, a length and N bytes
 abbrev pub nx_in : ℕ → List ℕ → List (ℕ × List ℕ)
 nx_in zero bytes = []
 nx_in (suc n) bytes =

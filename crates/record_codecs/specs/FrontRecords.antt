@@ -4,7 +4,7 @@ use Rattle.std.specs.List.{flat_map, AllByRecursion}
 use Rattle.avl_values.specs.declared.codec.Codec.{Codec}
 use Rattle.record_layout.specs.SomeRecord.{IsSomeRecord}
 
--- so many records in this codec, one behind the other, and then these bytes
+-- N records in this codec, one after the other, and then these bytes
 pub record BeginWithRecords (codec : Codec) (count : ℕ) (behind bytes : List ℕ) : Type 0 where
   pub records : List (List ℕ)
   pub counted : length records ≡ count

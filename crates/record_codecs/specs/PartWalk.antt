@@ -1,4 +1,4 @@
--- A record walked part by part: where rows end once so many of their bytes are passed.
+-- A record walked part by part: where rows end once N of their bytes are passed.
 use Rattle.std.specs.Prelude.{◌≡◌, ℕ, ◌+◌, ◌-◌, ◌≤◌, List, ◌∷◌, length, Option, None, MatchOption}
 use Rattle.layout.specs.Rows.{Rows, judge}
 use Rattle.record_layout.specs.declared.part.Part.{Part}
@@ -20,7 +20,7 @@ pub record EndsWith (rows : Rows Nothing) (bytes : List ℕ) (others : Rows Noth
 abbrev pub rows_left : List Part → PartWalk → Rows Nothing
 rows_left left walk = parts_rows left walk.total walk.counted nothing
 
--- the walk is past the part: the parts end where those behind it end, or nowhere
+-- the walk is past the part: the parts end where those after it end, or nowhere
 abbrev pub IsPast : Part → List Part → PartWalk → Option PartWalk → Type 0
 IsPast p left walk result =
     MatchOption result (HasNoEnd (rows_left (p ∷ left) walk) walk.rest.now)

@@ -30,7 +30,7 @@ generation_in C16 v = Some v.generation
 abbrev pub generation_of : RecordView → RecordValue → Option ℕ
 generation_of r v = generation_in r.codec v
 
--- where the groups of elements begin: behind 24 bytes, the event's id, in Codec 16 the generation type, and the total
+-- where the groups of elements begin: after 24 bytes, the event's id, in Codec 16 the generation type, and the total
 abbrev pub elements_from : Codec → ℕ
 elements_from C8 = 26
 elements_from C8E = 28

@@ -11,7 +11,7 @@ use avl_values::{Codec, Io, Width};
 use layout::number;
 use record_layout::{count_width, id_width};
 
-/// The first bytes, so many where they are there, and the others.
+/// The first bytes, N where they are there, and the others.
 pub fn split_front(bytes: &[u8], n: usize) -> (&[u8], &[u8])
     ensures front { result.0.now ≡ take n bytes.now }
     ensures back { result.1.now ≡ drop n bytes.now }
@@ -23,7 +23,7 @@ pub fn split_front(bytes: &[u8], n: usize) -> (&[u8], &[u8])
     }
 }
 
-/// The number in the first bytes, and the bytes behind it.
+/// The number in the first bytes, and the bytes after it.
 pub fn split_number(bytes: &[u8], width: Width) -> (u64, &[u8])
     ensures value { result.0 ≡ number_of (take (bytes_of width) bytes.now) }
     ensures fits { result.0 < limit width }
@@ -111,7 +111,7 @@ impl Iterator for Ios<'_> {
     }
 }
 
-/// The bytes behind the groups at the front.
+/// The bytes after the groups at the front.
 pub fn after_groups(codec: Codec, bytes: &[u8]) -> &[u8]
     ensures { result.now ≡ behind_groups codec all_widths bytes.now }
 {

@@ -19,7 +19,7 @@ pub struct RecordState {
     pub counted: u64,
 }
 
-/// So many pairs after the one that is read, and their widths.
+/// N pairs after the one that is read, and their widths.
 #[derive(Clone, Copy)]
 pub struct PairsLeft {
     pub left: u64,
@@ -27,7 +27,7 @@ pub struct PairsLeft {
     pub value: Width,
 }
 
-/// So many triples after the one that is read, and their widths.
+/// N triples after the one that is read, and their widths.
 #[derive(Clone, Copy)]
 pub struct TriplesLeft {
     pub left: u64,
@@ -111,7 +111,7 @@ impl RecordState {
         counted_with(self.total, self.counted, count, left)
     }
 
-    /// What stands after a part's first field.
+    /// What follows a part's first field.
     #[inline(always)]
     fn after_part(self, part: Part, value: u64) -> Result<Option<InRecord>, FaultKind>
         ensures follows { (field : List ℕ) → length field ≡ first_width_of part → Reads field value → FollowsIn (rows_in (InRecord.Part self part)) field result }
@@ -188,7 +188,7 @@ impl InRecord {
         }
     }
 
-    /// What stands after a field of this value: the next field, the record's end, or the rule that the field breaks.
+    /// What follows a field of this value: the next field, the record's end, or the rule that the field breaks.
     #[inline(always)]
     pub fn next(self, value: u64) -> Result<Option<InRecord>, FaultKind>
         ensures follows { (field : List ℕ) → length field ≡ width_in self → Reads field value → FollowsIn (rows_in self) field result }

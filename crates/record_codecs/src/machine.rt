@@ -7,8 +7,8 @@ use field_machine::Machine;
 use layout::Steps;
 use std::sync::ledger::Ledger;
 
-/// Judges the bytes of a body of a known length, one at a time, and holds none of them. After each byte it answers what
-/// `scan` answers of all bytes so far.
+/// Judges the bytes of a body of a known length, one at a time, and holds none of them. After each byte it returns what
+/// `scan` returns for all bytes so far.
 #[derive(Clone, Copy)]
 pub struct RecordMachine {
     machine: Machine<PacketPlace>,

@@ -12,7 +12,7 @@ use avl_values::Width;
 use layout::number;
 use record_layout::Part;
 
-/// A walk through a record: its total, the sum of its counts so far, and the bytes behind the parts that are passed.
+/// A walk through a record: its total, the sum of its counts so far, and the bytes after the parts that are passed.
 #[derive(Clone, Copy)]
 pub struct PartWalk<'a> {
     pub total: u64,
@@ -20,7 +20,7 @@ pub struct PartWalk<'a> {
     pub rest: &'a [u8],
 }
 
-/// The bytes behind the first `n`; None where fewer are there.
+/// The bytes after the first `n`; None where fewer are there.
 #[inline(always)]
 fn skip(bytes: &[u8], n: u64) -> Option<&[u8]>
     ensures { MatchOption result (length bytes.now < n) (λ rest. (n ≤ length bytes.now) × (rest.now ≡ drop n bytes.now)) }
@@ -31,7 +31,7 @@ fn skip(bytes: &[u8], n: u64) -> Option<&[u8]>
     Some(&bytes[n as usize..])
 }
 
-/// The number in the first bytes, and the bytes behind it; None where fewer are there.
+/// The number in the first bytes, and the bytes after it; None where fewer are there.
 #[inline(always)]
 fn take_number(bytes: &[u8], width: Width) -> Option<(u64, &[u8])>
     ensures { MatchOption result (length bytes.now < bytes_of width) (λ taken. (bytes_of width ≤ length bytes.now) × (taken.0 ≡ front_number width bytes.now) × (taken.1.now ≡ behind width bytes.now)) }
@@ -48,7 +48,7 @@ fn take_number(bytes: &[u8], width: Width) -> Option<(u64, &[u8])>
     Some((number(field), rest))
 }
 
-/// The bytes behind so many pairs of id and value.
+/// The bytes after N pairs of id and value.
 #[inline(always)]
 fn skip_pairs(bytes: &[u8], count: u64, id: Width, value: Width) -> Option<&[u8]>
     ensures { (rows : Rows Nothing) → MatchOption result (HasNoEnd (times count (pair_rows id value) rows) bytes.now) (λ rest. EndsWith (times count (pair_rows id value) rows) bytes.now rows rest.now) }
@@ -57,7 +57,7 @@ fn skip_pairs(bytes: &[u8], count: u64, id: Width, value: Width) -> Option<&[u8]
     skip(bytes, size)
 }
 
-/// The bytes behind so many triples of id, length and as many bytes.
+/// The bytes after N triples of id, length and as many bytes.
 fn skip_triples(bytes: &[u8], count: u64, id: Width, length: Width) -> Option<&[u8]>
     ensures { (rows : Rows Nothing) → MatchOption result (HasNoEnd (times count (triple_rows id length) rows) bytes.now) (λ rest. EndsWith (times count (triple_rows id length) rows) bytes.now rows rest.now) }
 {
@@ -87,7 +87,7 @@ pub fn counted_with(total: u64, counted: u64, count: u64, left: &[Part]) -> Opti
 }
 
 impl<'a> PartWalk<'a> {
-    /// The walk behind a part, before those that are left; None where the record ends or a rule fails in it.
+    /// The walk after a part, before those that are left; None where the record ends or a rule fails in it.
     #[inline(always)]
     pub fn past(self, part: Part, left: &[Part]) -> Option<PartWalk<'a>>
         ensures { IsPast part left.now self.entry result }

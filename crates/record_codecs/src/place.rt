@@ -16,13 +16,13 @@ use record_layout::PacketHead;
 pub enum PacketPlace {
     Codec,
     Count(Codec),
-    /// A field of a record, after which so many records stand.
+    /// A field of a record, after which N records stand.
     Record(PacketHead, u8, InRecord),
     LastCount(PacketHead),
     End(PacketHead),
 }
 
-/// The first field of so many records, or of what follows the last.
+/// The first field of N records, or of what follows the last.
 #[inline(always)]
 fn next_record(head: PacketHead, left: u8) -> PacketPlace
     ensures rows { rows_at result ≡ records_left head left }

@@ -26,7 +26,7 @@ pub fn records(body: &[u8]) -> Records<'_>
     }
 }
 
-/// One record, read in place. What the view answers is the record's value where `is_record` holds of the bytes.
+/// One record, read in place. What the view returns is the record's value where `is_record` holds of the bytes.
 pub fn view(codec: Codec, bytes: &[u8]) -> RecordView<'_>
     ensures codec { codec_of result ≡ codec }
     ensures bytes { viewed result ≡ bytes.now }

@@ -16,7 +16,7 @@ pub struct Records<'a> {
 }
 
 impl<'a> Records<'a> {
-    /// So many records at the front of these bytes.
+    /// N records at the front of these bytes.
     pub(crate) fn new(codec: Codec, left: u8, rest: &'a [u8]) -> Records<'a>
         ensures { records_left result ≡ records_in codec left rest.now }
     {

@@ -12,7 +12,7 @@ use crate::elements::{Ios, Nxs, after_groups, split_front, split_number};
 use avl_values::{Codec, Gps, Width};
 use record_layout::id_width;
 
-/// A record in a codec, read in place. What it answers is the record's value where its bytes are one record (`is_record`); of
+/// A record in a codec, read in place. What it returns is the record's value where its bytes are one record (`is_record`); of
 /// other bytes the answers are of no use.
 #[derive(Clone, Copy)]
 pub struct RecordView<'a> {

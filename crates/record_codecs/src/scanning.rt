@@ -22,7 +22,7 @@ pub fn scan(have: &[u8], total: u32) -> Scan
     field_machine::scan(have, total, PacketPlace::Codec)
 }
 
-// What stands behind so many records at the front of these bytes; None where one of them isn't there whole.
+// What follows N records at the front of these bytes; None where one of them isn't there whole.
 fn behind_records(codec: Codec, count: u8, bytes: &[u8]) -> Option<&[u8]>
     ensures { IfSome result (λ behind. BeginWithRecords codec count behind.now bytes.now) }
 {

@@ -96,7 +96,7 @@ fn first_faults(rt: HostRuntime) -> Result<(), Fail> {
     Ok(())
 }
 
-/// How often a machine answered More, how many steps it took, and its last answer.
+/// How often a machine returned More, how many steps it took, and its last answer.
 #[derive(Drop)]
 struct Judged {
     more: usize,

@@ -9,7 +9,7 @@ use Rattle.record_layout.specs.Packet.{IsPacket}
 use Rattle.record_layout.specs.PacketRows.{packet_verdict}
 use Rattle.record_layout.specs.RecordsOf.{count_of, records_of}
 
--- A whole verdict says that the body of so many bytes is there and is a packet.
+-- A whole verdict says that the body of N bytes is there and is a packet.
 abbrev pub WholeIsPacket : Type 0
 WholeIsPacket = (total n : ℕ) (head : PacketHead) (bytes : List ℕ) → AreBytes bytes → packet_verdict total bytes ≡ whole head n
     → (records : List (List ℕ)) × (n ≡ total) × (total ≤ length bytes) × IsPacket head.codec records (take total bytes) × (head.count ≡ length records)

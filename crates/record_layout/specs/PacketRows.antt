@@ -32,6 +32,6 @@ with_codec None = refuse UnknownCodec
 unfoldable pub packet_rows : Rows PacketHead
 packet_rows = number_row 1 (λ id. codec_rule (codec_of id)) (λ id. with_codec (codec_of id))
 
--- the verdict on the first bytes of a body of so many bytes
+-- the verdict on the first bytes of a body of N bytes
 unfoldable pub packet_verdict : ℕ → List ℕ → Verdict PacketHead
 packet_verdict total bytes = judge (body total packet_rows) 0 bytes

@@ -20,7 +20,7 @@ count_rule (p ∷ ps) total counted = fault_unless (not (nat_lt total counted)) 
 abbrev pub pair_rows : {V : Type 0} → Width → Width → Rows V → Rows V
 pair_rows id value rest = any (bytes_of id) (any (bytes_of value) rest)
 
--- an id, a length, and so many bytes
+-- an id, a length, and N bytes
 abbrev pub triple_rows : {V : Type 0} → Width → Width → Rows V → Rows V
 triple_rows id len rest = any (bytes_of id) (number_row (bytes_of len) (λ _. None) (λ n. any n rest))
 

@@ -20,7 +20,7 @@ abbrev pub or_none : Option ℕ → ℕ
 or_none (Some n) = n
 or_none None = 0
 
--- so many records, one behind the other
+-- N records, one after the other
 abbrev pub records_in : Codec → ℕ → List ℕ → List (List ℕ)
 records_in codec zero bytes = []
 records_in codec (suc n) bytes = let k = or_none (first_record codec bytes) in take k bytes ∷ records_in codec n (drop k bytes)

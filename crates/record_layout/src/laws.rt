@@ -1,7 +1,7 @@
 //! The laws of data bodies, each as the contract of a function that does nothing.
 ghost use Rattle.record_layout.specs.Laws.{BodyIsCounted, BodyIsWhole, WholeIsBody, NoPacketBeginsAnother, PacketIsWhole, PacketVerdictStays, RecordsAreRead, WholeIsPacket};
 
-/// A whole verdict says that the body of so many bytes is there, and is a packet with the number of records that it says.
+/// A whole verdict says that the body of N bytes is there, and is a packet with the number of records that it says.
 pub fn whole_is_packet()
     ensures { WholeIsPacket }
 {}

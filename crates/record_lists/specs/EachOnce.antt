@@ -2,11 +2,11 @@
 use Rattle.std.specs.Prelude.{◌≡◌, ℕ, Bool, List, [], ◌∷◌, ◌++◌, slice_get, Some, if◌then◌else◌}
 use Rattle.std.specs.List.{list_any}
 
--- the same item stands in the list
+-- the same item is in the list
 abbrev pub is_listed : {A : Type 0} → (A → A → Bool) → List A → A → Bool
 is_listed same list x = list_any (λ y. same y x) list
 
--- the list with the item behind it, unless it stands there
+-- the list with the item after it, unless it stands there
 abbrev pub add_once : {A : Type 0} → (A → A → Bool) → List A → A → List A
 add_once same list x = if is_listed same list x then list else list ++ x ∷ []
 

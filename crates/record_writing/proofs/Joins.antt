@@ -1,4 +1,4 @@
--- Pieces that are written one behind the other.
+-- Pieces that are written one after the other.
 use Rattle.std.proofs.Common.{◌≡◌, ℕ, List, ◌++◌, ap, ◌∙◌, append_assoc}
 
 pub written3 : (o i1 i2 i3 a b c : List ℕ) → i1 ≡ o ++ a → i2 ≡ i1 ++ b → i3 ≡ i2 ++ c → i3 ≡ o ++ (a ++ (b ++ c))

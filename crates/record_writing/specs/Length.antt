@@ -15,7 +15,7 @@ use Rattle.record_layout.specs.Table.{parts_of}
 abbrev pub pairs_length : Width → Width → List (ℕ × ℕ) → ℕ
 pairs_length id value es = sum_by (λ e. bytes_of id + bytes_of value) es
 
--- triples of id, length and so many bytes, with id and length of these widths
+-- triples of id, length and N bytes, with id and length of these widths
 abbrev pub triples_length : Width → Width → List (ℕ × List ℕ) → ℕ
 triples_length id len es = sum_by (λ e. bytes_of id + bytes_of len + length e.1) es
 

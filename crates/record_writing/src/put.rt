@@ -1,4 +1,4 @@
-//! Fields behind those that are written already. Each call is given the room that it takes.
+//! Fields after those that are written already. Each call is given the room that it takes.
 ghost use Rattle.std.specs.Prelude.{◌≡◌, ◌<◌, ◌≤◌, ◌+◌, ◌++◌, length, All};
 ghost use Rattle.std.specs.List.{flat_map, AllByRecursion};
 ghost use Rattle.arrayvec.specs.ArrayVec.{array_vec_len};
@@ -15,7 +15,7 @@ use arrayvec::ArrayVec;
 use avl_values::{Io, NxList, Width};
 use layout::put_all;
 
-/// A number in so many bytes.
+/// A number in N bytes.
 pub fn put(out: &mut ArrayVec<u8, 255>, width: Width, n: u64)
     requires room { array_vec_len out.old + bytes_of width ≤ 255 }
     requires fits { n < limit width }

@@ -159,7 +159,7 @@ module _ (served : Served) (mark : Mark) (taken : List ℕ) (all : List Brought)
       counted-size : served.frames ≡ length (records a.counted)
       counted-size = a.frames ∙ sym (size a.counted)
 
-  -- a record that a counted call brought stands in the frames
+  -- a record that a counted call brought is in the frames
   in-first : (b : Brought) (r : Record) → In a.counted b → In b.records r → In (records_of_first (served.frames + 1) taken) r
   in-first b r made is =
       in-joined (take (served.frames + 1) rows) b.records r

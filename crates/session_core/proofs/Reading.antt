@@ -67,7 +67,7 @@ reads_push old new piece n d p = record {
   };
 }
 
--- what was read stands first in the bytes
+-- what was read comes first in the bytes
 pub heads_read : (bytes : List ℕ) (said : List UpValue) (old new : Reader) → Reads bytes said old new → Heads bytes said old
 heads_read bytes said old new p = record {
   heads = λ before items had.

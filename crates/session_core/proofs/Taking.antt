@@ -51,7 +51,7 @@ pub never_stranger : {O : Type 0} → (i : Option ℕ) (o : O) → is_stranger (
 never_stranger None o = refl
 never_stranger (Some imei) o = refl
 
--- behind a frame somebody has logged in
+-- after a frame somebody has logged in
 pub packet_has_imei : (old new : SessionState) (piece : List ℕ) (n : ℕ) → Heard old new piece n Packet → new.imei ≡ None → ⊥
 packet_has_imei old new piece n h none =
     there_is old.imei (sym h.place ∙ (frame_stays old.reader new.reader piece n h.decided (packet h.says.head new.reader.body) h.says.is refl h.pushed).0) (sym h.imei ∙ none)
@@ -100,7 +100,7 @@ module _ {S O : Type 0} (leaves : S → ℕ → List ℕ → Result Receipt Admi
       took_as (Some (ends.Broken found)) (take n rest) old new s s w w f k f k (talk_of old o) (talk_of old o) (talk_of new o) (talk_of old o) refl (ap (λ (x : Option ℕ × Bool). talk_with x.0 x.1 o) (λ i. (h.imei i, h.refused i)))
       (record { dealt = []; reads = fault_push found old.reader new.reader rest n p; does = does_none leaves m known (at (talk_of old o) s w f k); welcome = ap (λ (b : Bool). is_stranger (talk_with old.imei b o)) ready.welcome ∙ never_stranger old.imei o })
 
-  -- one item stands first
+  -- one item comes first
   stops_first : (end : SessionEnd) (v : UpValue) (rest : List ℕ) (n : ℕ) (old new : Reader) (x y : Doing S O) → Pushed up_rows lent_up old new rest n (item v) → StopsAt leaves m known end v x y → imei_in y.talk ≡ imei_in (next m known x.talk v) → Stops leaves m known end (take n rest) [] old x y
   stops_first end v rest n old new x y p stops imei = record {
     dealt = [];

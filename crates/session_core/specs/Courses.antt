@@ -18,7 +18,7 @@ use Rattle.session_core.specs.Talks.{Meaning, Talk, nobody, device, reply, text,
 abbrev pub said_in : List ℕ → List UpValue
 said_in taken = values (up_reading false taken).items
 
--- the verdict on what stands after the items
+-- the verdict on what follows the items
 abbrev pub rest_verdict : Reading UpValue → Verdict UpValue
 rest_verdict reading = judge (next_rows (up_rows false) (up_rows true) reading.items) 0 reading.rest
 

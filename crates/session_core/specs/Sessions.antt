@@ -79,7 +79,7 @@ pub record Heard (old new : SessionState) (piece : List ℕ) (n : ℕ) (step : S
   pub owes : new.owes ≡ owes_after step
   pub refused : new.refused ≡ old.refused
 
--- the talk that a session stands in, with these orders
+-- the talk that a session is in, with these orders
 abbrev pub talk_with : {O : Type 0} → Option ℕ → Bool → O → Talk O
 talk_with None refused o = nobody o
 talk_with (Some imei) true o = stranger imei o

@@ -29,14 +29,14 @@ impl ImeiList {
         }
     }
 
-    /// How many IMEIs stand in it.
+    /// How many IMEIs are in it.
     pub fn len(&self) -> usize
         ensures { result ≡ length self.now }
     {
         self.items.len()
     }
 
-    /// Whether no IMEI stands in it.
+    /// Whether no IMEI is in it.
     pub fn is_empty(&self) -> bool
         ensures { IsTrue result ↔ (self.now ≡ []) }
     {
@@ -78,7 +78,7 @@ pub enum Known {
 }
 
 impl Known {
-    /// Whether this device is known: every one is, or it stands in the list.
+    /// Whether this device is known: every one is, or it is in the list.
     pub fn has(&self, imei: Imei) -> bool
         ensures { result ≡ knows self.now imei }
     {

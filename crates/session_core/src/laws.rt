@@ -4,7 +4,7 @@ ghost use Rattle.session_core.specs.Complete.{WellFormedEnds};
 
 /// Of an archive that was up as a session began, and is a shelf over a medium that tells its content, a power loss after the
 /// session, or at any moment inside it, leaves what was there before, all records of each frame that was counted, and nothing
-/// further but records of the session's device that stand in these frames or in the one after them.
+/// further but records of the session's device that are in these frames or in the one after them.
 pub fn counted_is_archived()
     ensures { CountedIsArchived }
 {}

@@ -20,7 +20,7 @@ pub trait Orders: Drop {
     /// The orders after a device's response was heard.
     ghost told: { Self → ℕ → CommandValue → Self };
 
-    /// Gives one command to a device, if one waits for it: on true `out` is one whole command frame of the way down. What stood
+    /// Gives one command to a device, if one waits for it: on true `out` is one whole command frame of the way down. What was
     /// in `out` is gone then; on false nothing is said of it.
     fn next(&mut self, imei: Imei, out: &mut ArrayVec<u8, 1280>) -> bool
         ensures gives { IsGiven (gives self.old imei) result out.new.items }

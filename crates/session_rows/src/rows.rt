@@ -39,7 +39,7 @@ fn serve_both(alloc: Global, known: &Known, stream: &[&str], written: &str) -> O
     if bytes == pieces { Some(bytes) } else { None }
 }
 
-// What is to be served: the device's IMEI stands in it where anything is written.
+// What is to be served: the device's IMEI is in it where anything is written.
 fn wanted(written: &str, counts: (u64, u64), end: SessionEnd) -> Served {
     let imei = if written.is_empty() {
         None

@@ -119,7 +119,7 @@ legal-snoc o s t log b legal stands admits =
 pub stands-none : (s : Shelved) → s.down ≡ false → StandsFor s [] s
 stands-none s up = record { list = refl; down = refl; faults = omega arith; fell = λ down. absurd (let never : false ≡ true = sym up ∙ down in cc); counts = tt }
 
--- calls of a shelf in a row, behind others
+-- calls of a shelf in a row, after others
 pub fed-on : (o : Shelved) (mark : Mark) (log : List Brought) (calls : List Call) (s t : ShelfView) → StandsFor o log (front s) → IsLegalFor o log → Feeds Leaves s calls t
     → StandsFor o (log ++ map (brought mark) calls) (front t) × IsLegalFor o (log ++ map (brought mark) calls)
 fed-on o mark log [] s t stands legal feeds =

@@ -1,4 +1,4 @@
--- Which records a list has behind a history, and which calls of a history are under some numbers.
+-- Which records a list has after a history, and which calls of a history are under some numbers.
 use Rattle.std.proofs.Common.{◌≡◌, ◌⊎◌, inl, inr, ℕ, zero, suc, ◌+◌, ◌==◌, ◌<◌, ◌≤◌, Bool, true, false, List, [], ◌∷◌, ◌++◌, length, map, slice_get, Some, Ok, Err, if◌then◌else◌, sym, ◌∙◌, ap, refl, subst, arith}
 use Rattle.std.proofs.lemmas.Bool.Decides.{nat_tests}
 use Rattle.std.proofs.lemmas.Option.{slice_get_within}
@@ -103,7 +103,7 @@ in-places list imei (x ∷ rs) [] r are is = absurd are
 in-places list imei (x ∷ rs) (p ∷ ps) r are (inl here) = in-place list p (stored imei r) (are.0 ∙ ap (λ (y : Record). Some (stored imei y)) here)
 in-places list imei (x ∷ rs) (p ∷ ps) r are (inr there) = in-places list imei rs ps r are.1 there
 
--- what a legal history has places for is in the list behind it
+-- what a legal history has places for is in the list after it
 pub in-legal : (list : List StoredValue) (down : Bool) (bs : List Brought) (b : Brought) (r : Record) → IsLegal list down bs → In bs b → HasPlaces b.answer → In b.records r → In (replay list bs) (stored b.imei r)
 in-legal list down [] b r legal made has is = absurd made
 in-legal list down (c ∷ bs) b r legal (inl here) has is =

@@ -71,7 +71,7 @@ ArePlaces list imei [] (p ∷ ps) = ⊥
 ArePlaces list imei (r ∷ rs) [] = ⊥
 ArePlaces list imei (r ∷ rs) (p ∷ ps) = (slice_get list p ≡ Some (stored imei r)) × ArePlaces list imei rs ps
 
--- a list with some more behind it
+-- a list with some more after it
 pub record Begins (old new : List StoredValue) : Type 0 where
   pub more : List StoredValue
   pub is : new ≡ old ++ more
@@ -89,7 +89,7 @@ abbrev pub has_device : List StoredValue → ℕ → Bool
 has_device [] imei = false
 has_device (s ∷ list) imei = (s.imei == imei) || has_device list imei
 
--- how many devices come for the first time behind these records
+-- how many devices come for the first time after these records
 abbrev pub devices_after : List StoredValue → List StoredValue → ℕ
 devices_after seen [] = 0
 devices_after seen (s ∷ list) = (if has_device seen s.imei then 0 else 1) + devices_after (seen ++ s ∷ []) list

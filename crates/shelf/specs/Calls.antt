@@ -51,12 +51,12 @@ brought_by mark imei body result = record { imei = imei; records = records_of bo
 abbrev pub brought : Mark → Call → Brought
 brought mark c = brought_by mark c.imei c.body c.result
 
--- the calls that are told, with more behind them; where none are told, none
+-- the calls that are told, with more after them; where none are told, none
 abbrev pub with_calls : List Brought → Option (List Brought) → Option (List Brought)
 with_calls more None = None
 with_calls more (Some told) = Some (told ++ more)
 
--- A call puts itself behind those that are told, under the mark, which stays.
+-- A call puts itself after those that are told, under the mark, which stays.
 pub record TellsCall (imei : ℕ) (body : List ℕ) (result : Result Receipt AdmitFault) (mark now : Mark) (told told_now : Option (List Brought)) : Type 0 where
   pub same : now ≡ mark
   pub added : told_now ≡ with_calls (brought_by mark imei body result ∷ []) told

@@ -26,7 +26,7 @@ AreCountedIn low high log = AreCounted low high (all_brought log)
 abbrev pub StandsAfter : Shelved → List Entry → Shelved → Type 0
 StandsAfter o log s = StandsFor o (all_brought log) s
 
--- how often n stands in the list
+-- how often n is in the list
 abbrev pub times : ℕ → List ℕ → ℕ
 times n [] = 0
 times n (x ∷ xs) = (if n == x then 1 else 0) + times n xs

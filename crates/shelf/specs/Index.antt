@@ -1,5 +1,5 @@
 -- The index beside the record list: a map to places, by device and a number. A record's place stands under its digest, or,
--- where that has the place of another record, under the first of the numbers behind it that was free.
+-- where that has the place of another record, under the first of the numbers after it that was free.
 use Rattle.std.specs.Prelude.{◌≡◌, ℕ, ◌+◌, ◌%◌, ◌^◌, ◌<◌, false, List, slice_get, Option, Some, None, IsSome}
 use Rattle.std.specs.BTreeMap.{BTreeMap, get}
 use Rattle.std.specs.Ordering.{nat_cmp, ordering_then}
@@ -24,11 +24,11 @@ key_cmp a b = ordering_then (nat_cmp a.0 b.0) (nat_cmp a.1 b.1)
 abbrev pub place_in : BTreeMap Key ℕ → Key → Option ℕ
 place_in places key = get key_cmp places key
 
--- the number so many steps behind a digest
+-- the number N steps after a digest
 abbrev pub number_at : ℕ → ℕ → ℕ
 number_at digest step = (digest + step) % 2 ^ 64
 
--- A record's place stands some steps behind its digest, and each number before has a place, too.
+-- A record's place stands some steps after its digest, and each number before has a place, too.
 pub record IsFiled (find : Key → Option ℕ) (imei digest place : ℕ) : Type 0 where
   pub step : ℕ
   pub there : find (imei, number_at digest step) ≡ Some place
@@ -41,7 +41,7 @@ digest_for r = digest_of r.codec r.bytes
 pub record IsIndexed (list : List StoredValue) (find : Key → Option ℕ) : Type 0 where
   pub each : (p : ℕ) (s : StoredValue) → slice_get list p ≡ Some s → IsFiled find s.imei (digest_for s.rec) p
 
--- The number some steps behind a digest is free, and each one before has a place.
+-- The number some steps after a digest is free, and each one before has a place.
 pub record IsFree (find : Key → Option ℕ) (imei digest number : ℕ) : Type 0 where
   pub step : ℕ
   pub is : number ≡ number_at digest step

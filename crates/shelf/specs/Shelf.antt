@@ -110,7 +110,7 @@ WritesNothing new (Err NoMemory) = Unit {0}
 WritesNothing new (Err (MediumFault faults)) = ⊥
 
 -- What a call of a shelf's `admit` leaves. One that writes nothing changes nothing. At every exit, and so at each moment of the call, a power loss leaves the entries
--- before, or those with one entry of the new records behind them.
+-- before, or those with one entry of the new records after them.
 pub record Leaves (old : ShelfView) (imei : ℕ) (body : List ℕ) (result : Result Receipt AdmitFault) (new : ShelfView) : Type 0 where
   pub admits : Admits (front old) imei (records_of body) (answer_of result) (front new)
   pub opened : new.opened ≡ old.opened

@@ -27,7 +27,7 @@ impl Devices {
         }
     }
 
-    /// Notes the device of a record that comes behind this list. NoMemory changes nothing.
+    /// Notes the device of a record that comes after this list. NoMemory changes nothing.
     pub fn note(&mut self, list: &[Stored], imei: Imei) -> Result<(), NoMemory>
         requires counted { IsCounted list.now self.old }
         requires few { length list.now < 2 ^ 63 }
@@ -45,7 +45,7 @@ impl Devices {
         }
     }
 
-    /// Forgets the device of a record that was the last behind this list, where it has no other.
+    /// Forgets the device of a record that was the last after this list, where it has no other.
     pub fn forget(&mut self, list: &[Stored], last: &Stored)
         requires { IsCounted (list.now ++ last.now ∷ []) self.old }
         ensures { IsCounted list.now self.new }

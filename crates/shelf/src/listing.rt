@@ -88,7 +88,7 @@ fn find(
     Err(NoMemory)
 }
 
-// Puts a new record behind the list, and its place under a free number. NoMemory leaves the list as it was.
+// Puts a new record after the list, and its place under a free number. NoMemory leaves the list as it was.
 fn put(
     items: &mut Vec<Stored>,
     places: &mut Places,

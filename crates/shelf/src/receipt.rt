@@ -18,7 +18,7 @@ pub struct Receipt {
 /// Why a packet isn't admitted.
 #[derive(Clone, Copy, Debug, PartialEq, Eq)]
 pub enum AdmitFault {
-    /// An earlier call answered MediumFault. Nothing has changed, and no call of the medium was made.
+    /// An earlier call returned MediumFault. Nothing has changed, and no call of the medium was made.
     Down {
         /// How often the medium has failed, above that at opening.
         faults: u64,
@@ -65,6 +65,6 @@ pub trait Admit {
         ensures leaves { leaves self.old imei body.now result self.new }
         ensures receipt { IfOk result (λ r. r.count ≡ count_of body.now) };
 
-    /// A call puts itself behind those that are told, under the mark, which no call changes.
+    /// A call puts itself after those that are told, under the mark, which no call changes.
     ghost tells: { (s : Self) (imei : ℕ) (body : List ℕ) (result : Result Receipt AdmitFault) (t : Self) → leaves s imei body result t → TellsCall imei body result (mark s) (mark t) (calls s) (calls t) };
 }

@@ -26,7 +26,7 @@ use std::marker::Model;
 /// A server's archive on a medium: each record of a device once, at its first place.
 ///
 /// A packet that was admitted with a receipt has all its records in every image that a power loss may leave. After a call that
-/// answered MediumFault the shelf is down: take the medium, and open it again.
+/// returned MediumFault the shelf is down: take the medium, and open it again.
 #[derive(Drop)]
 pub struct Shelf<M: Medium> {
     journal: Journal<M>,
@@ -142,7 +142,7 @@ impl<M: Medium> Shelf<M> {
         self.journal.faults()
     }
 
-    /// Whether an earlier call answered MediumFault.
+    /// Whether an earlier call returned MediumFault.
     pub fn is_down(&self) -> bool
         ensures value { result ≡ self.now.down }
         ensures durable { self.now.down ≡ false → IsDurable self.now }

@@ -12,7 +12,7 @@ pub record IsPrinted {X : Type 0} (tokens : X → List Token) (text : X → List
   pub later : (rest : List Token) → print_from true (tokens x ++ rest) ≡ 44 ∷ (text x ++ print_from true rest)
 
 module _ {X : Type 0} (tokens : X → List Token) (text : X → List ℕ) where
-  -- the elements behind the first one
+  -- the elements after the first one
   more_printed : (x : X) (xs : List X) (rest : List Token) → AllByRecursion (IsPrinted tokens text) xs
       → text x ++ print_from true (flat_map tokens xs ++ end_array ∷ rest) ≡ join_with_byte 44 (text x ∷ map text xs) ++ 93 ∷ print_from true rest
   unfolding print_from

@@ -84,7 +84,7 @@ middle_tokens v line =
     ∷ key (codes "line") ∷ number (decimal line) ∷ key (codes "longitude") ∷ number (signed_decimal v.longitude)
     ∷ key (codes "nx") ∷ (list_tokens nx_tokens v.nx ++ back_tokens v)
 
--- the lists are printed, with what stands in front of each
+-- the lists are printed, with what is in front of each
 lists_printed : (v : RecordValue) (line : ℕ) (generation : List ℕ) → AllByRecursion (λ e. AreBytes e.1) v.nx
     → joined (front generation v) (print_from false (list_tokens element_tokens (ios_of v) ++ middle_tokens v line))
     ≡ joined (front generation v) (in_brackets (map element_text (ios_of v)) ++ joined (middle v line) (in_brackets (map nx_text v.nx) ++ print_from true (back_tokens v)))

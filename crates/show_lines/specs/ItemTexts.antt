@@ -1,5 +1,5 @@
 -- What is printed of each item of a capture but its records: one object of compact JSON with its keys in alphabetical order (this
--- project's own). `line` is the number of the line of the capture that the item's bytes stand in.
+-- project's own). `line` is the number of the line of the capture that the item's bytes are in.
 use Rattle.std.specs.Prelude.{ℕ, ◌==◌, if◌then◌else◌, List, [], ◌∷◌, ◌++◌, codes, decimal, Option, option_map}
 use Rattle.std.specs.List.{concat}
 use Rattle.hex.specs.Hex.{encode_lower}
@@ -36,7 +36,7 @@ count_text count line = concat
     (codes "{\"count\":" ∷ decimal count
     ∷ codes ",\"item\":\"count\",\"line\":" ∷ decimal line ∷ codes "}" ∷ [])
 
--- so many bytes of an item that is unfinished: `{"have":20,"item":"short","line":1}`
+-- N bytes of an item that is unfinished: `{"have":20,"item":"short","line":1}`
 unfoldable pub short_text : ℕ → ℕ → List ℕ
 short_text have line = concat
     (codes "{\"have\":" ∷ decimal have

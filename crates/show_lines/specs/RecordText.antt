@@ -20,7 +20,7 @@ element_text e = concat
 abbrev pub nx_text : ℕ × List ℕ → List ℕ
 nx_text e = concat (codes "[" ∷ decimal e.0 ∷ codes "," ∷ in_quotes (encode_lower e.1) ∷ codes "]" ∷ [])
 
--- The elements stand in the record's order. Only Codec 16 has a generation type; elsewhere it is `null`.
+-- The elements are in the record's order. Only Codec 16 has a generation type; elsewhere it is `null`.
 unfoldable pub record_text : Codec → RecordValue → ℕ → List ℕ
 record_text codec v line = concat
     (codes "{\"altitude\":" ∷ signed_decimal v.altitude

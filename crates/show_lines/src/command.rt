@@ -42,7 +42,7 @@ impl Serialize for CommandLine<'_> {
     }
 }
 
-/// Appends the line of a command or a response that stands in this line of the capture. NoMemory changes nothing.
+/// Appends the line of a command or a response that is in this line of the capture. NoMemory changes nothing.
 pub fn push_command_line(
     out: &mut Vec<u8>,
     command: &Command<'_>,

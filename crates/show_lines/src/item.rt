@@ -21,7 +21,7 @@ pub enum Item {
     Answer(u8),
     /// A count of records.
     Count(u32),
-    /// The end of the bytes inside an item, of which so many are there.
+    /// The end of the bytes inside an item, of which N are there.
     Short {
         have: u32,
     },
@@ -194,7 +194,7 @@ impl Serialize for ItemLine<'_> {
     }
 }
 
-/// Appends the line of an item that stands in this line of the capture. NoMemory changes nothing.
+/// Appends the line of an item that is in this line of the capture. NoMemory changes nothing.
 pub fn push_line(out: &mut Vec<u8>, item: &Item, line: u32) -> Result<(), NoMemory>
     ensures ok { OnOk result (out.new.items ≡ out.old.items ++ item_line item.now line) }
     ensures err { OnErr result (out.new.items ≡ out.old.items) }

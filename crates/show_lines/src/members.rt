@@ -12,7 +12,7 @@ use avl_values::Imei;
 use serde::Serializer;
 use std::alloc::Global;
 
-/// Begins an object of so many members.
+/// Begins an object of N members.
 pub(crate) fn begin<S: Serializer>(out: &mut S, members: usize) -> Result<(), S::Error>
     ensures { OnOk result (Sends (begin_object ∷ []) (S.written out.old) (S.written out.new)) }
 {

@@ -85,7 +85,7 @@ impl Serialize for RecordLine<'_> {
     }
 }
 
-/// Appends the line of a record that stands in this line of the capture: of the value that the bytes spell. NoMemory changes nothing.
+/// Appends the line of a record that is in this line of the capture: of the value that the bytes spell. NoMemory changes nothing.
 /// Of bytes that are no record the line is of no use.
 pub fn push_record_line(
     out: &mut Vec<u8>,

@@ -35,7 +35,7 @@ split_missing byte xs h =
 abbrev parts_at : List ℕ → Option ℕ → Option (List ℕ × List ℕ)
 parts_at xs place = option_map (λ i. (take i xs, drop (i + 1) xs)) place
 
--- the parts of a text that is cut: what stands before the cut, and the parts behind it
+-- the parts of a text that is cut: what comes before the cut, and the parts after it
 pub cut_some : (byte : ℕ) (xs line rest : List ℕ) → Some (line, rest) ≡ cut_at byte xs → slice_split (λ b. b == byte) xs ≡ line ∷ slice_split (λ b. b == byte) rest
 cut_some byte xs line rest h = go (position (λ b. b == byte) xs) refl h
   where

@@ -3,7 +3,7 @@ ghost use Rattle.std.specs.List.{position};
 ghost use Rattle.std.specs.Str.Lines.{lines, strip_carriage_return};
 ghost use Rattle.text_lines.specs.Cuts.{cut_at};
 
-/// What stands before the first such byte of a text and behind it; None where there is none.
+/// What comes before the first such byte of a text and after it; None where there is none.
 pub fn split_once(byte: u8, text: &[u8]) -> Option<(&[u8], &[u8])>
     ensures parts { option_map (λ p. (p.0.now, p.1.now)) result ≡ cut_at byte text.now }
     ensures shorter { MatchOption result (Unit {0}) (λ p. length p.1.now < length text.now) }
@@ -21,7 +21,7 @@ fn place_of(byte: u8, text: &[u8]) -> Option<usize>
     text.iter().position(|b| *b == byte)
 }
 
-/// The first line of a text that isn't empty, without its end (LF, or CR and LF), and the text behind it.
+/// The first line of a text that isn't empty, without its end (LF, or CR and LF), and the text after it.
 pub fn first_line(text: &[u8]) -> (&[u8], &[u8])
     requires { 0 < length text.now }
     ensures line { lines text.now ≡ result.0.now ∷ lines result.1.now }

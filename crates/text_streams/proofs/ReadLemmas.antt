@@ -1,4 +1,4 @@
--- What is left of a text behind a piece of it.
+-- What is left of a text after a piece of it.
 use Rattle.std.proofs.Common.{◌≡◌, ℕ, ◌+◌, ◌<◌, min, List, [], ◌∷◌, ◌++◌, length, take, drop, ap, sym, ◌∙◌, refl, arith, length-drop}
 use Rattle.std.proofs.lemmas.List.{take-append-drop, drop-drop}
 

@@ -33,8 +33,8 @@ impl Model for MemorySink {
 }
 
 impl MemorySink {
-    /// A sink with room for so many bytes, which it takes at once. A write fails exactly at the calls whose numbers, from
-    /// 0, stand in `failing`, and where no room is left.
+    /// A sink with room for N bytes, which it takes at once. A write fails exactly at the calls whose numbers, from
+    /// 0, are in `failing`, and where no room is left.
     pub fn new(alloc: Global, room: usize, failing: &[u64]) -> Result<MemorySink, NoMemory>
         ensures { IfOk result (λ sink. sink ≡ unwritten room failing.now) }
     {

@@ -31,7 +31,7 @@ impl Model for MemorySource {
     ghost invariant = { λ s. s.at ≤ vec_len s.bytes };
 }
 
-/// Copies what fits from `bytes`, at `at` and behind, to the front of `into`, and says how much.
+/// Copies what fits from `bytes`, from `at` on, to the front of `into`, and says how much.
 fn copy_from(bytes: &[u8], at: usize, into: &mut [u8]) -> usize
     requires { at ≤ length bytes.now }
     ensures count { result ≡ min (length into.old) (length (drop at bytes.now)) }
@@ -43,7 +43,7 @@ fn copy_from(bytes: &[u8], at: usize, into: &mut [u8]) -> usize
 }
 
 impl MemorySource {
-    /// A source of these bytes, which fails exactly at the calls of `read` whose numbers, from 0, stand in `failing`.
+    /// A source of these bytes, which fails exactly at the calls of `read` whose numbers, from 0, are in `failing`.
     pub fn new(alloc: Global, bytes: &[u8], failing: &[u64]) -> Result<MemorySource, NoMemory>
         ensures { IfOk result (λ source. source ≡ unread bytes.now failing.now) }
     {

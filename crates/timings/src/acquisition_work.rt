@@ -39,7 +39,7 @@ fn fix_at(second: u64) -> Fix {
     fix
 }
 
-/// Acquires over so many fixes, a second apart, with eight I/O settings; the fixes, and how many records came.
+/// Acquires over N fixes, a second apart, with eight I/O settings; the fixes, and how many records came.
 pub fn acquire(fixes: u64) -> Option<(u64, u64)> {
     let mut acquirer = Acquirer::new(settings()?);
     let mut records: u64 = 0;

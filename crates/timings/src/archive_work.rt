@@ -19,7 +19,7 @@ fn admit<M: Medium>(shelf: &mut Shelf<M>, imei: Imei, bytes: &[u8]) -> bool {
     }
 }
 
-/// Admits so many packets, the devices in turn, and counts those that were stored.
+/// Admits N packets, the devices in turn, and counts those that were stored.
 fn fill<M: Medium>(
     alloc: Global,
     shelf: &mut Shelf<M>,

@@ -3,7 +3,7 @@ use avl_values::NoMemory;
 use crc_field::crc;
 use std::alloc::Global;
 
-/// 255 records with so many elements of one byte each, all else zero.
+/// 255 records with N elements of one byte each, all else zero.
 pub fn long_body(alloc: Global, elements: u8) -> Result<Vec<u8>, NoMemory> {
     let mut bytes = Vec::new(alloc);
     bytes.extend_from_slice(&[0x08, 255])?;
@@ -19,7 +19,7 @@ pub fn long_body(alloc: Global, elements: u8) -> Result<Vec<u8>, NoMemory> {
     Ok(bytes)
 }
 
-/// Records with so many elements of two bytes each, at one place and time.
+/// Records with N elements of two bytes each, at one place and time.
 pub fn driving_body(alloc: Global, records: u8, elements: u8) -> Result<Vec<u8>, NoMemory> {
     let mut bytes = Vec::new(alloc);
     bytes.extend_from_slice(&[0x08, records])?;
@@ -37,7 +37,7 @@ pub fn driving_body(alloc: Global, records: u8, elements: u8) -> Result<Vec<u8>,
     Ok(bytes)
 }
 
-/// So many records without elements, with the times from `first` on.
+/// N records without elements, with the times from `first` on.
 pub fn timed_body(alloc: Global, first: u64, records: u8) -> Result<Vec<u8>, NoMemory> {
     let mut bytes = Vec::with_capacity(alloc, 1300)?;
     bytes.extend_from_slice(&[0x08, records])?;

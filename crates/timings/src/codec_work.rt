@@ -15,7 +15,7 @@ fn is_whole(bytes: &[u8], by_field: bool) -> bool
     }
 }
 
-/// Judges the body so many times, each time with another time in its first record, and counts how often it is whole.
+/// Judges the body N times, each time with another time in its first record, and counts how often it is whole.
 fn judge(bytes: &mut [u8], rounds: u64, by_field: bool) -> u64 {
     let mut whole: u64 = 0;
     for round in 0..rounds {
@@ -29,7 +29,7 @@ fn judge(bytes: &mut [u8], rounds: u64, by_field: bool) -> u64 {
     whole
 }
 
-/// Judges a body of 255 records with so many elements, at most 112; its bytes, and how often it was whole.
+/// Judges a body of 255 records with N elements, at most 112; its bytes, and how often it was whole.
 pub fn judge_packets(
     alloc: Global,
     elements: u64,

@@ -95,7 +95,7 @@ fn run_all<R: Threads + Wait + Sync>(
     stored
 }
 
-/// Makes the calls by so many seats of one desk, each in a thread of its own; how many packets were stored.
+/// Makes the calls by N seats of one desk, each in a thread of its own; how many packets were stored.
 fn at_desk<R: Threads + Wait + Sync>(
     rt: &R,
     alloc: Global,
@@ -113,7 +113,7 @@ fn at_desk<R: Threads + Wait + Sync>(
     Some(run_all(rt, alloc, sessions.as_mut_slice()))
 }
 
-/// Admits so many packets of 40 records, over a medium in memory, by so many seats; how many were stored, and by how many seats.
+/// Admits N packets of 40 records, over a medium in memory, by N seats; how many were stored, and by how many seats.
 pub fn admit<R: Threads + Wait + Sync>(
     rt: &R,
     alloc: Global,

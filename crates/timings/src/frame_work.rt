@@ -3,7 +3,7 @@ use avl_values::NoMemory;
 use frame_channel::{Up, UpItem};
 use std::alloc::Global;
 
-/// So many frames of 255 records with 112 elements, one after the other.
+/// N frames of 255 records with 112 elements, one after the other.
 fn stream(alloc: Global, frames: u64) -> Result<Vec<u8>, NoMemory> {
     let body = long_body(alloc, 112)?;
     let mut bytes = Vec::new(alloc);
@@ -42,7 +42,7 @@ fn read(alloc: Global, bytes: &[u8], piece: usize) -> Result<u64, NoMemory> {
     Ok(packets)
 }
 
-/// Reads so many frames in pieces of so many bytes; the stream's bytes, and how many frames were read.
+/// Reads N frames in pieces of N bytes; the stream's bytes, and how many frames were read.
 pub fn read_stream(alloc: Global, frames: u64, piece: u64) -> Option<(u64, u64)> {
     let bytes = stream(alloc, frames).ok()?;
     let packets = read(alloc, &bytes, piece as usize).ok()?;

@@ -6,7 +6,7 @@ use std::alloc::Global;
 
 const RECORDS: u8 = 200;
 
-/// The lines of the packet, so many times into one buffer, and how long they are.
+/// The lines of the packet, N times into one buffer, and how long they are.
 fn write(alloc: Global, body: &[u8], rounds: u32) -> Result<usize, NoMemory> {
     let head = PacketHead {
         codec: Codec::C8,
@@ -20,7 +20,7 @@ fn write(alloc: Global, body: &[u8], rounds: u32) -> Result<usize, NoMemory> {
     Ok(out.len())
 }
 
-/// Writes the lines of a packet of 200 records with so many elements, at most 255; the body's bytes, and those of its lines.
+/// Writes the lines of a packet of 200 records with N elements, at most 255; the body's bytes, and those of its lines.
 pub fn write_lines(alloc: Global, elements: u64, rounds: u64) -> Option<(u64, u64)> {
     let bytes = driving_body(alloc, RECORDS, elements.min(255) as u8).ok()?;
     let length = write(alloc, &bytes, rounds.min(1_000_000) as u32).ok()?;

@@ -55,7 +55,7 @@ fn release<M: Medium>(ring: &mut Ring<M>, room: u16) -> Option<()> {
     ring.release(batch.as_slice()).ok()
 }
 
-/// Puts records and releases a batch after each so many.
+/// Puts records and releases a batch after each N.
 fn put_and_release(ring: &mut Ring<MemoryBench>, times: u64, each: u64, room: u16) -> Option<()>
     requires { 0 < each }
 {
@@ -99,7 +99,7 @@ fn select(ring: &Ring<MemoryBench>, times: u64) -> Option<()> {
     Some(())
 }
 
-/// Writes so many KiB onto a medium in memory, and syncs it after each.
+/// Writes N KiB onto a medium in memory, and syncs it after each.
 pub fn write_medium(alloc: Global, blocks: u64) -> Option<(u64, u64)> {
     let Ok(mut medium) = MemoryMedium::new(alloc, &[], &[]) else {
         return None;
@@ -116,7 +116,7 @@ pub fn write_medium(alloc: Global, blocks: u64) -> Option<(u64, u64)> {
     Some((blocks, blocks))
 }
 
-/// Works a ring of 4,096 slots in memory so many times. `release` puts records, each released before the next; `rounds` puts them
+/// Works a ring of 4,096 slots in memory N times. `release` puts records, each released before the next; `rounds` puts them
 /// into a ring that is half full, and releases a batch after each 40; `overwrite` puts them into a full ring; `select`
 /// selects batches from a full ring that went round once and a half. Gives the times, and how many records are held at the end.
 pub fn work(alloc: Global, what: &str, times: u64) -> Option<(u64, u64)> {

@@ -40,7 +40,7 @@ fn fixes(alloc: Global, devices: u64, values: u32) -> Result<String, NoMemory> {
     Ok(text)
 }
 
-/// A script of so many bytes at most: of fixes with 32 values (0), of fixes without one (1), of `late` lines to 64 connections (2),
+/// A script of N bytes at most: of fixes with 32 values (0), of fixes without one (1), of `late` lines to 64 connections (2),
 /// or of `close` lines (3).
 fn script(alloc: Global, kind: u64, bytes: usize) -> Result<String, NoMemory> {
     match kind {
@@ -75,7 +75,7 @@ fn script(alloc: Global, kind: u64, bytes: usize) -> Result<String, NoMemory> {
     }
 }
 
-/// Reads a script of this kind and at most so many bytes, at most 2^24, so many times; its lines and its bytes.
+/// Reads a script of this kind and at most N bytes, at most 2^24, N times; its lines and its bytes.
 pub fn read_scripts(alloc: Global, kind: u64, bytes: u64, rounds: u64) -> Option<(u64, u64)> {
     let text = script(alloc, kind, bytes.min(0x100_0000) as usize).ok()?;
     let mut lines = 0;

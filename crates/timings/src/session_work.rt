@@ -8,7 +8,7 @@ use std::alloc::Global;
 
 const RECORDS: u8 = 40;
 
-/// A login and so many frames of 40 records, all of them new, or the same in each frame.
+/// A login and N frames of 40 records, all of them new, or the same in each frame.
 fn stream(alloc: Global, imei: Imei, frames: u64, new: bool) -> Result<Vec<u8>, NoMemory> {
     let mut bytes = Vec::new(alloc);
     bytes.extend_from_slice(&write_login(imei))?;
@@ -38,7 +38,7 @@ fn serve_bytes(alloc: Global, bytes: &[u8], piece: usize) -> Option<u64> {
     Some(served.records)
 }
 
-/// Serves a session of so many frames of 40 records in pieces of so many bytes, each record new or all frames the same; the stream's
+/// Serves a session of N frames of 40 records in pieces of N bytes, each record new or all frames the same; the stream's
 /// bytes, and how many records were counted.
 pub fn serve(alloc: Global, frames: u64, piece: u64, new: bool) -> Option<(u64, u64)> {
     let imei = Imei::from_number(356_307_042_441_013)?;

@@ -61,7 +61,7 @@ fn tracker(alloc: Global) -> Option<Tracker<MemoryBench>> {
     Some(Tracker::new(imei, ring, Order::Oldest))
 }
 
-/// Keeps so many records.
+/// Keeps N records.
 fn keep_all(tracker: &mut Tracker<MemoryBench>, records: u64) -> Option<()> {
     let rec = sample()?;
     let mut losses = NoLosses { faults: 0 };
@@ -87,7 +87,7 @@ fn round(alloc: Global, tracker: &mut Tracker<MemoryBench>) -> Option<u64> {
     }
 }
 
-/// Sends so many records in rounds of one batch each: how many rounds that took.
+/// Sends N records in rounds of one batch each: how many rounds that took.
 fn send_all(alloc: Global, tracker: &mut Tracker<MemoryBench>, records: u64) -> Option<u64> {
     let mut rounds: u64 = 0;
     let mut sent: u64 = 0;
@@ -101,7 +101,7 @@ fn send_all(alloc: Global, tracker: &mut Tracker<MemoryBench>, records: u64) -> 
     Some(rounds)
 }
 
-/// Keeps so many records, up to 4,096, in a new ring, and sends them where that is asked for, so many times: how many rounds that
+/// Keeps N records, up to 4,096, in a new ring, and sends them where that is asked for, N times: how many rounds that
 /// took each time.
 pub fn talk(alloc: Global, records: u64, times: u64, sends: bool) -> Option<(u64, u64)> {
     let mut rounds = 0;

@@ -181,7 +181,7 @@ fn each_call_of_a_link_fails_in_turn(rt: HostRuntime) -> Result<(), Fail> {
     Ok(())
 }
 
-// A round of two batches whose flash loses power after so many calls; how it ended, and how many records are held afterwards.
+// A round of two batches whose flash loses power after N calls; how it ended, and how many records are held afterwards.
 fn flash_fails(alloc: Global, calls: u64) -> Option<(Result<RoundEnd, MediumFault>, u16)> {
     let mut tracker = with_records(alloc, &[Codec::C8, Codec::C8E])?;
     let counts = b"\x01\x00\x00\x00\x01\x00\x00\x00\x01";

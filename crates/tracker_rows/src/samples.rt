@@ -68,7 +68,7 @@ impl Losses for Listing {
     }
 }
 
-/// A tracker over a ring of so many slots, formatted on a bench.
+/// A tracker over a ring of N slots, formatted on a bench.
 pub fn tracker_of(alloc: Global, slots: u16) -> Option<Tracker<MemoryBench>>
     requires some { 1 ≤ slots }
     requires few { slots ≤ 4096 }

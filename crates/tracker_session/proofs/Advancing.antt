@@ -60,7 +60,7 @@ module _ {S : Type 0} (m : ShellMeaning S) (r : Round S) where
         state = a.state;
       }
 
-  -- the item behind those so far
+  -- the item after those so far
   abbrev pub last_item : List ℕ → DownValue → Item DownValue
   last_item bytes v = record { value = v; end = length bytes }
 

@@ -52,7 +52,7 @@ few-recs slots (k ∷ ks) =
     let rest = few-recs slots ks in
     elim (rec_at slots k) as (λ o. length (cons_option o (recs_in slots ks)) ≤ suc (length ks)) [ None ↦ omega arith | Some r ↦ omega arith ]
 
--- the batch in front of a record, the record, and the batch behind it
+-- the batch in front of a record, the record, and the batch after it
 recs-split : (slots : List (Option Held)) (batch : List ℕ) (i : ℕ) (r : Record) → i < length batch → rec_at slots (get_or batch i 0) ≡ Some r
     → recs_in slots batch ≡ recs_in slots (take i batch) ++ (r ∷ recs_in slots (drop (i + 1) batch))
 recs-split slots batch i r low at =

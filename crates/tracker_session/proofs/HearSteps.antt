@@ -57,7 +57,7 @@ item-tracker v r q piece n value is going taken =
     )
 
 module _ {S : Type 0} (m : ShellMeaning S) (v : TrackerView) (r q : Reader) (piece : List ℕ) (n : ℕ) where
-  -- where the reader stands after an item
+  -- where the reader comes after an item
   behind : (value : DownValue) → TakesItem v r q piece n value → with_reader v q ≡ record (with_reader v r) { answered = true; have = [] }
   behind value t = ap (λ (z : Bool × List ℕ). let w : TrackerView = record v { answered = z.0; have = z.1 } in w) (λ i. (t.after_first i, t.have i))
 

@@ -227,7 +227,7 @@ module _ {S : Type 0} (m : ShellMeaning S) (r : Round S) (old : RingView) (durab
   by-leaves : (e : RoundEnd) (d : RoundState S) (new : RingView) (t : S) → AreGiven r.slots (d.closed ++ d.batch) → Leaves m r d old new t → IsRingEnd (Ok e) old new → Released (Ok e) new
   by-leaves e d new t given l ends = (d.frames, recs_in old.slots d.closed, leaves-ring (Ok e) d new t given l (passes e) ends)
 
-  -- so many records fewer are held
+  -- N records fewer are held
   fewer-held : (d : RoundState S) (new : RingView) (t : S) (n : ℕ) → AreGiven r.slots (d.closed ++ d.batch) → Leaves m r d old new t → n ≡ length d.closed → length (held_of new.slots) + n ≡ length (held_of old.slots)
   fewer-held d new t n given l is =
       let front = given-front r.slots d.closed d.batch given in

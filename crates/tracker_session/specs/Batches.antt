@@ -1,5 +1,5 @@
 -- The batch that a device sends next, and its frame (Teltonika, Data Sending Protocols, "Codec 8 protocol sending over TCP"; which
--- records stand in it is this project's own).
+-- records are in it is this project's own).
 use Rattle.std.specs.Prelude.{ℕ, List, [], ◌∷◌, map, Option}
 use Rattle.avl_values.specs.Record.{Record}
 use Rattle.avl_values.specs.declared.order.Order.{Order}

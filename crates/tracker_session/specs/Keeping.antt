@@ -65,7 +65,7 @@ pub record FailsToList (v : RingView) (old new : LossesState) : Type 0 where
   pub listed : new.listed ≡ old.listed
   pub rose : Rose old.faults new.faults
 
--- What an answer says of the losses' list: the oldest record of a full ring stands in it before a slot is closed.
+-- What an answer says of the losses' list: the oldest record of a full ring is in it before a slot is closed.
 abbrev pub LeavesLosses : Result Kept KeepFault → RingView → LossesState → LossesState → Type 0
 LeavesLosses (Ok kept) v old new = ListsOldest v old new
 LeavesLosses (Err fault.MediumFault) v old new = ListsOldest v old new

@@ -1,4 +1,4 @@
--- What a device answers to a command (Teltonika, Data Sending Protocols: Codec 12, Codec 14).
+-- What a device returns to a command (Teltonika, Data Sending Protocols: Codec 12, Codec 14).
 use Rattle.std.specs.Prelude.{ℕ, List, [], Option, Some, None, if◌then◌else◌}
 use Rattle.command_layout.specs.Answers.{answer_to, asks_shell, value_in}
 use Rattle.command_layout.specs.Spelling.{command_of}

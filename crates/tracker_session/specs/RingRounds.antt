@@ -26,7 +26,7 @@ IsRingEnd (Ok (end.WrongAnswer got)) old new = Unit {0}
 IsRingEnd (Ok end.TooManyCommands) old new = Unit {0}
 IsRingEnd (Err failed) old new = new.down ≡ true
 
--- The own counts of so many batches were heard, and these are the records of those batches. At every exit, and so at each moment of the
+-- The own counts of N batches were heard, and these are the records of those batches. At every exit, and so at each moment of the
 -- round, a power loss leaves all other records. Each batch took one call of the medium, and each of its records one.
 pub record RoundsRing (result : Result RoundEnd MediumFault) (heard : ℕ) (released : List Record) (old new : RingView) : Type 0 where
   pub size : length new.slots ≡ length old.slots

@@ -95,7 +95,7 @@ module _ {S : Type 0} (m : ShellMeaning S) (r : Round S) where
 abbrev pub release_calls : {S : Type 0} → RoundState S → ℕ
 release_calls d = d.frames + length d.closed
 
--- the round of a tracker that may send so many batches
+-- the round of a tracker that may send N batches
 abbrev pub round_by : {S : Type 0} → TrackerView → ℕ → S → Round S
 round_by v most s = record { imei = v.imei; sends = v.order; slots = v.ring.slots; most = most; shell = s }
 

@@ -50,7 +50,7 @@ module _ {S : Type 0} (m : ShellMeaning S) (r : Round S) where
     pub counted : Counted (release_calls d + (length d.batch + 1)) old.medium new.medium (Unit {0})
     pub shell : t ≡ d.shell
 
-  -- It ends behind its items, and what was taken behind them is judged so.
+  -- It ends after its items, and what was taken after them is judged so.
   pub record Rests (verdict : Verdict DownValue) (taken : List ℕ) (old new : RingView) (t : S) (x y : Option Traffic) : Type 0 where
     pub items : List (Item DownValue)
     pub rest : List ℕ

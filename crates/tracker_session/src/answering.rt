@@ -42,7 +42,7 @@ fn own_where(own: Imei, named: Option<Imei>) -> Option<Imei>
     }
 }
 
-/// Writes the frame of a response over what stood in `out`.
+/// Writes the frame of a response over what was in `out`.
 fn write_response(command: &Command<'_>, out: &mut ArrayVec<u8, 1280>)
     requires well_formed { WellFormed Up (value_of command.now) }
     requires fits { length (command_of (value_of command.now)) ≤ 1268 }
@@ -55,7 +55,7 @@ fn write_response(command: &Command<'_>, out: &mut ArrayVec<u8, 1280>)
     write_frame(&body, out);
 }
 
-/// Hands a command to the shell, where it is for this device, and writes the frame of the answer over what stood in `out`.
+/// Hands a command to the shell, where it is for this device, and writes the frame of the answer over what was in `out`.
 pub fn answer<S: Shell>(imei: Imei, body: &[u8], shell: &mut S, out: &mut ArrayVec<u8, 1280>)
     requires { IsFramedCommand Down body.now }
     ensures frame { out.new.items ≡ answer_frame (record { says = S.says; obeyed = S.obeyed }) imei shell.old body.now }

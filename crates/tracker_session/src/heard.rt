@@ -20,7 +20,7 @@ pub enum Heard {
     Accepted,
     /// The login's answer `00`. The talk is over.
     Refused,
-    /// The outstanding batch's own count, of so many records. Their slots are closed.
+    /// The outstanding batch's own count, of N records. Their slots are closed.
     Released(u8),
     /// A command, whose answer is to be sent.
     Answer,

@@ -10,11 +10,11 @@ pub trait Losses {
     /// What contracts see of it.
     ghost state: { Self → LossesState };
 
-    /// How often it has failed. The count never falls, and stands still at its type's end.
+    /// How often it has failed. The count never falls, and stays at its type's greatest value.
     fn faults(&self) -> u64
         ensures { result ≡ (state self.now).faults };
 
-    /// Lists a record behind those that were listed. `Failed` lists nothing, and counts.
+    /// Lists a record after those that were listed. `Failed` lists nothing, and counts.
     fn list(&mut self, rec: &Rec) -> Result<(), Failed>
         ensures listed { OnOk result ((state self.new).listed ≡ with_loss (record_of rec.now) (state self.old).listed) }
         ensures failed { OnErr result ((state self.new).listed ≡ (state self.old).listed) }

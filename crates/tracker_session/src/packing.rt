@@ -54,7 +54,7 @@ fn pack<M: Medium>(ring: &Ring<M>, slots: &[u16]) -> ArrayVec<u8, 1268>
     body.finish()
 }
 
-/// The frame of a batch, over what stood in `out`, and nothing of none.
+/// The frame of a batch, over what was in `out`, and nothing of none.
 pub fn write_batch<M: Medium>(ring: &Ring<M>, slots: &[u16], out: &mut ArrayVec<u8, 1280>)
     requires up { ring.now.down ≡ false }
     requires batch { AreBatch ring.now.slots slots.now }

@@ -3,7 +3,7 @@ use crate::heard::Got;
 /// How a round ended.
 #[derive(Clone, Copy, Debug, PartialEq, Eq)]
 pub enum RoundEnd {
-    /// Each batch that was sent was counted, so many records in all, and as many batches were sent as asked for, or no slot is
+    /// Each batch that was sent was counted, N records in all, and as many batches were sent as asked for, or no slot is
     /// open.
     Done(u32),
     /// No slot was open, and nothing was written.

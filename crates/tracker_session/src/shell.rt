@@ -5,13 +5,13 @@ use arrayvec::ArrayVec;
 
 /// What obeys the text of a command, and answers it. Both are told by its state before and the text.
 pub trait Shell {
-    /// What it answers to a text.
+    /// What it returns to a text.
     ghost says: { Self → List ℕ → List ℕ };
 
     /// Its state after it obeyed a text.
     ghost obeyed: { Self → List ℕ → Self };
 
-    /// Obeys a text, and writes the answer over what stood in `answer`.
+    /// Obeys a text, and writes the answer over what was in `answer`.
     fn obey(&mut self, text: &[u8], answer: &mut ArrayVec<u8, 1024>)
         ensures says { answer.new.items ≡ says self.old text.now }
         ensures obeyed { self.new ≡ obeyed self.old text.now };

@@ -24,7 +24,7 @@ use Rattle.frame_layout.specs.Items.{frame_of}
 use Rattle.trial_model.specs.Frames.{body_at, has_frame, is_packet, is_whole}
 use Rattle.trial_bench.specs.PlainFrame.{ArePlain, IsFrame, body_of, bytes_of_each, records_with}
 
--- plain records, one list behind the other
+-- plain records, one list after the other
 pub plain_append : (records more : List Record) → ArePlain records → ArePlain more → ArePlain (records ++ more)
 plain_append [] more h k = k
 plain_append (r ∷ rs) more h k = (h.0, plain_append rs more h.1 k)

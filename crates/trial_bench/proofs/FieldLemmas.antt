@@ -5,7 +5,7 @@ use Rattle.text_lines.specs.Cuts.{cut_at}
 use Rattle.text_lines.proofs.CutLemmas.{cut_none, cut_some}
 use Rattle.trial_bench.specs.Fields.{fields_of, five_of, ten_of}
 
--- the first field and those behind it, or the only one
+-- the first field and those after it, or the only one
 pub fields_cut : (line : List ℕ) (parts : Option (Bor (List ℕ) × Bor (List ℕ))) → option_map (λ p. (p.0.now, p.1.now)) parts ≡ cut_at 32 line
     → MatchOption parts (fields_of line ≡ line ∷ []) (λ p. fields_of line ≡ p.0.now ∷ fields_of p.1.now)
 fields_cut line None is = cut_none 32 line is

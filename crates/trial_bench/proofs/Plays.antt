@@ -78,7 +78,7 @@ pub step_plain : (line : ScriptLine) (rest : List ScriptLine) (ends : List Devic
 step_plain line rest [] h = refl
 step_plain line rest (e ∷ es) h = rw h refl
 
--- the history behind some fixes
+-- the history after some fixes
 abbrev pub after_fixes : Device → DeviceHistory → List NumberedFix → DeviceHistory
 after_fixes device h [] = h
 after_fixes device h (f ∷ fs) = after_fixes device (after_fix device h f.fix) fs

@@ -1,4 +1,4 @@
--- What may stand behind a script that was read, and what one line more makes of it.
+-- What may come after a script that was read, and what one line more makes of it.
 use Rattle.std.proofs.Common.{◌≡◌, ◌==◌, ℕ, ◌^◌, ◌<◌, ◌≤◌, ◌&&◌, nat_lt, Bool, true, false, List, [], ◌∷◌, ◌++◌, map, length, Option, Some, None, Ok, Err, refl, sym, ap, ◌∙◌, subst, arith}
 use Rattle.std.specs.Prelude.{is_none, is_some}
 use Rattle.std.specs.List.{fold, list_all}
@@ -131,7 +131,7 @@ pub not_said : (number : ℕ) (script : Script) (said : Option ScriptLine) → N
 unfolding with_line
 not_said number script said none = ap (with_line number script) (sym none)
 
--- lines behind a refusal change nothing
+-- lines after a refusal change nothing
 stays : (lines : List (ℕ × List ℕ)) (refusal : Refusal) → fold with_text_line (Err refusal) lines ≡ Err refusal
 stays [] refusal = refl
 stays (line ∷ lines) refusal = stays lines refusal

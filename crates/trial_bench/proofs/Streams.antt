@@ -35,7 +35,7 @@ plain_records : (records : List Record) → ArePlain records → 0 < length reco
 plain_records records plain some few =
     records_read C8 (bytes_of_each records) (body_of records) (is_frame records plain some few).packet ∙ same_records records plain
 
--- and nothing behind it.
+-- and nothing after it.
 no_frame : (most place : ℕ) → frames_from most place [] ≡ record { frames = []; rest = [] }
 unfolding frames_from packet_verdict packet_rows judge within parts_rows
 no_frame zero place = refl

@@ -24,7 +24,7 @@ number_within low high field =
 abbrev pub negative : ℕ → ℤ
 negative n = negsuc (n - 1)
 
--- a number from -(limit + 1) to limit; a `-` stands only before a number that isn't 0
+-- a number from -(limit + 1) to limit; a `-` comes only before a number that isn't 0
 unfoldable pub signed_within : ℕ → List ℕ → Option ℤ
 signed_within limit field =
     if slice_index field 0 == 45 then option_map negative (number_within 1 (limit + 1) (drop 1 field)) else option_map pos (number_within 0 limit field)

@@ -34,12 +34,12 @@ abbrev pub is_of : ℕ → Option Device → Bool
 is_of imei None = false
 is_of imei (Some d) = d.imei == imei
 
--- the device has a slot for one more than so many records
+-- the device has a slot for one more than N records
 abbrev pub has_slot : ℕ → Option Device → Bool
 has_slot records None = false
 has_slot records (Some d) = nat_lt records d.slots
 
--- a line that may stand behind a `device` line and these lines
+-- a line that may come after a `device` line and these lines
 abbrev pub may_follow : ScriptLine → Script → ScriptLine → Bool
 may_follow first more (Line.Device imei codec slots order period distance angle speed known) = false
 may_follow first more (Line.Setting imei setting) = false
@@ -51,7 +51,7 @@ may_follow first more (Line.Close connection) = false
 may_follow first more (Line.Power who) = false
 may_follow first more (Line.Fuse who calls tear) = false
 
--- whether a line may stand behind these
+-- whether a line may come after these
 unfoldable pub may_stand : Script → ScriptLine → Bool
 may_stand [] line = is_some (device_on [] line)
 may_stand (first ∷ more) line = may_follow first.1 more line
@@ -59,7 +59,7 @@ may_stand (first ∷ more) line = may_follow first.1 more line
 abbrev pub not_built : ℕ → Result Script Refusal
 not_built number = Err (record { line = number; kind = NotBuilt })
 
--- the script with one line more, where that says something that may stand there
+-- the script with one line more, where that says something that may be there
 unfoldable pub with_line : ℕ → Script → Option ScriptLine → Result Script Refusal
 with_line number script None = not_built number
 with_line number script (Some line) = if may_stand script line then Ok (script ++ (number, line) ∷ []) else not_built number
@@ -74,7 +74,7 @@ unfoldable pub script_of : List ℕ → Result Script Refusal
 script_of text =
     if nat_lt (2 ^ 24) (length text) then Err (record { line = 0; kind = TextTooLong }) else fold with_text_line (Ok []) (content_lines text)
 
--- a refusal is that of the text; want of memory says nothing
+-- a refusal is that of the text; out of memory says nothing
 abbrev pub Refuses : Result Script Refusal → PlainFault → Type 0
 Refuses told (Fault.Line line kind) = told ≡ Err (record { line = line; kind = kind })
 Refuses told Fault.NoMemory = Unit {0}

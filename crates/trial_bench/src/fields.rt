@@ -79,7 +79,7 @@ pub fn five_fields(line: &[u8]) -> Option<FiveFields<'_>>
     }
 }
 
-// The first field of a line and the fields behind it; None where there is one field alone.
+// The first field of a line and the fields after it; None where there is one field alone.
 fn cut(line: &[u8]) -> Option<(&[u8], &[u8])>
     ensures { MatchOption result (fields_of line.now ≡ line.now ∷ []) (λ p. fields_of line.now ≡ p.0.now ∷ fields_of p.1.now) }
 {

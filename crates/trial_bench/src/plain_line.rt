@@ -17,7 +17,7 @@ pub enum PlainLine {
     Device { imei: Imei, slots: u16, period: u64 },
     /// A fix without I/O values.
     Fix { imei: Imei, fix: Fix },
-    /// A connection with no limit either way, in pieces of at most so many bytes.
+    /// A connection with no limit either way, in pieces of at most N bytes.
     Round { imei: Imei, piece: u32 },
 }
 

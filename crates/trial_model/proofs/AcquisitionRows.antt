@@ -15,7 +15,7 @@ use Rattle.trial_model.proofs.Lines.{fix_at, imei}
 abbrev decisions_of : List ScriptLine → List (List Decision)
 decisions_of lines = map (λ d. (history_of d (steps_of lines [])).decisions) (devices_of lines)
 
--- an `io` line behind its device, and fixes with one value each
+-- an `io` line after its device, and fixes with one value each
 abbrev ignition : IoSetting
 ignition = record { id = 239; width = 1; operand = Change; low = 0; high = 0; priority = 1 }
 

@@ -32,7 +32,7 @@ device slots = record {
 abbrev pub device_line : ℕ → ScriptLine
 device_line slots = Line.Device imei C8 slots Oldest 1000 0 0 0 true
 
--- a fix so many seconds after the first one
+-- a fix N seconds after the first one
 abbrev pub fix_at : ℕ → Fix
 fix_at seconds = record {
   time = 1560161086000 + seconds * 1000;

@@ -71,7 +71,7 @@ abbrev pub MustFault : List ScriptLine → List ConnectionOutcome → ℕ → Co
 MustFault lines logs n c i line = IsGift lines n (length c.up) i line
     × IsBelow (cover_at lines i line) (4 * fresh_frames (records_given c.imei (connections_of (take i lines)) logs) (delivered_on lines i n c.up))
 
--- the place behind the last of these frames
+-- the place after the last of these frames
 abbrev pub last_end : ℕ → List Frame → ℕ
 last_end place [] = place
 last_end place (f ∷ fs) = last_end f.end fs

@@ -15,11 +15,11 @@ delivered_of c = frames_within c.up_given c.up
 abbrev pub heard_bytes : ConnectionOutcome → List ℕ
 heard_bytes c = take c.down_given c.down
 
--- the frames whose count was heard: behind the login's answer of one byte, each count has four
+-- the frames whose count was heard: after the login's answer of one byte, each count has four
 abbrev pub heard_of : ConnectionOutcome → List Frame
 heard_of c = take ((c.down_given - 1) / 4) (frames_of c.up)
 
--- the frames of a stream that end behind one place and at most at another
+-- the frames of a stream that end after one place and at most at another
 abbrev pub frames_between : ℕ → ℕ → List ℕ → List Frame
 frames_between a b up = filter (λ f. nat_lt a f.end && nat_le f.end b) (frames_of up)
 

@@ -1,5 +1,5 @@
 -- What is archived was delivered in a frame of its own device; and what a device has neither on flash nor listed as
--- overwritten or cut is archived, and stands in a frame whose count was heard.
+-- overwritten or cut is archived, and is in a frame whose count was heard.
 use Rattle.std.specs.Prelude.{◌≡◌, ◌⊎◌, List}
 use Rattle.std.specs.List.{All, Any, Contains}
 use Rattle.trial_model.specs.declared.outcome.ConnectionOutcome.{ConnectionOutcome}

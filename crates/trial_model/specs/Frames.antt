@@ -30,7 +30,7 @@ body_at bytes = take (from_be_bytes w32 (take 4 (drop 4 bytes))) (drop 8 bytes)
 abbrev pub has_frame : List ℕ → Bool
 has_frame bytes = is_packet (body_at bytes) && starts_with nat_eq bytes (frame_of (body_at bytes))
 
--- A frame, with the place behind its last byte.
+-- A frame, with the place after its last byte.
 pub record Frame : Type 0 where
   pub end : ℕ
   pub records : List Record
@@ -42,7 +42,7 @@ pub record Stream : Type 0 where
 abbrev pub with_frame : Frame → Stream → Stream
 with_frame f s = record { frames = f ∷ s.frames; rest = s.rest }
 
--- at most so many frames of these bytes, of which the first has this place
+-- at most N frames of these bytes, of which the first has this place
 unfoldable pub frames_from : ℕ → ℕ → List ℕ → Stream
 frames_from zero place bytes = record { frames = []; rest = bytes }
 frames_from (suc most) place bytes =
@@ -51,7 +51,7 @@ frames_from (suc most) place bytes =
     (frames_from most (place + (12 + length (body_at bytes))) (drop (12 + length (body_at bytes)) bytes))
     else record { frames = []; rest = bytes }
 
--- what stands behind the login: frames, and a rest that begins with none
+-- what follows the login: frames, and a rest that begins with none
 abbrev pub stream_of : List ℕ → Stream
 stream_of up = frames_from (length up) login_size (drop login_size up)
 

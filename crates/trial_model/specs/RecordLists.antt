@@ -5,7 +5,7 @@ use Rattle.avl_values.specs.Record.{Record}
 use Rattle.record_lists.specs.EachOnce as each_once
 use Rattle.record_lists.specs.SameRecord.{is_same}
 
--- the same record stands in the list
+-- the same record is in the list
 abbrev pub is_listed : List Record → Record → Bool
 is_listed records r = each_once.is_listed is_same records r
 

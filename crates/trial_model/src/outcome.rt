@@ -8,7 +8,7 @@ use std::marker::Model;
 /// How a connection ended for its device.
 #[derive(Clone, Copy, Debug, PartialEq, Eq)]
 pub enum DeviceEnd {
-    /// Every packet that was sent was counted, with so many records in all.
+    /// Every packet that was sent was counted, with N records in all.
     Done(u32),
     /// The device had no record, and sent nothing.
     Empty,
@@ -49,7 +49,7 @@ pub enum ServerEnd {
     Restart,
 }
 
-/// What became of one connection. Each list has the bytes that were sent; the first so many of them were delivered.
+/// What became of one connection. Each list has the bytes that were sent; the first N of them were delivered.
 #[derive(Debug, Drop)]
 pub struct ConnectionOutcome {
     pub imei: Imei,

@@ -62,7 +62,7 @@ pub enum ScriptLine {
     Power {
         who: Who,
     },
-    /// The next line of this medium has a power loss after so many medium calls, with this tear.
+    /// The next line of this medium has a power loss after N medium calls, with this tear.
     Fuse {
         who: Who,
         calls: u64,

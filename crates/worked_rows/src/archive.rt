@@ -252,7 +252,7 @@ fn admit_example(
     Some((again, shelf.list().len(), found))
 }
 
-// The same over a medium whose first call behind the first time fails.
+// The same over a medium whose first call after the first time fails.
 fn example_twice(alloc: Global) -> Option<((u8, u64, u64), usize, (u64, u64))> {
     let mut shelf = over_nothing(alloc, 8)?;
     admit_example(alloc, &mut shelf)
@@ -298,7 +298,7 @@ fn on_a_bench(alloc: Global) -> Option<Shelf<MemoryBench>>
     }
 }
 
-// A shelf whose power was lost inside the first admit after so many calls, or behind it.
+// A shelf whose power was lost inside the first admit after N calls, or after it.
 fn torn(alloc: Global, calls: u64, tear: Tear) -> Option<Shelf<MemoryBench>> {
     let mut shelf = on_a_bench(alloc)?;
     shelf.arm(calls, tear);
@@ -321,7 +321,7 @@ fn listed_on(alloc: Global, bench: MemoryBench) -> usize {
     }
 }
 
-// A power loss inside the first admit after so many calls: how many records are listed after the restart.
+// A power loss inside the first admit after N calls: how many records are listed after the restart.
 fn cut(alloc: Global, calls: u64, tear: Tear) -> usize {
     match torn(alloc, calls, tear) {
         Some(shelf) => listed_on(alloc, restarted(shelf)),
@@ -329,7 +329,7 @@ fn cut(alloc: Global, calls: u64, tear: Tear) -> usize {
     }
 }
 
-// Whether so many records are listed with this tear, by how many calls passed before the power was lost.
+// Whether N records are listed with this tear, by how many calls passed before the power was lost.
 fn cuts_list(alloc: Global, tear: Tear, listed: &[usize]) -> bool {
     for (calls, wanted) in listed.iter().enumerate() {
         if cut(alloc, calls as u64, tear) != *wanted {

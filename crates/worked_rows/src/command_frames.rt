@@ -69,7 +69,7 @@ fn example_commands_are_written(rt: HostRuntime) -> Result<(), Fail> {
     Ok(())
 }
 
-// What a reader of a stream down answers to bytes in pieces of at most so many, up to the first answer that isn't More.
+// What a reader of a stream down answers to bytes in pieces of at most N, up to the first answer that isn't More.
 fn in_pieces(down: &mut Down, bytes: &[u8], piece: usize) -> DownItem {
     if piece == 0 {
         return DownItem::More;
@@ -126,7 +126,7 @@ fn down_answer(alloc: Global, down: &mut Down, text: &str) -> Option<(usize, Dow
     Some(down.push(&bytes))
 }
 
-// Whether a reader of a stream down takes so many bytes of a text, and answers this.
+// Whether a reader of a stream down takes N bytes of a text, and answers this.
 fn tells(alloc: Global, down: &mut Down, text: &str, taken: usize, item: DownItem) -> bool {
     down_answer(alloc, down, text) == Some((taken, item))
 }
@@ -153,7 +153,7 @@ fn up_answer(up: &mut Up, bytes: &[u8]) -> Option<(usize, UpItem)> {
     Some(up.push(bytes))
 }
 
-// A reader of a stream up, at its login or behind it.
+// A reader of a stream up, at its login or after it.
 fn reader(alloc: Global, after_login: bool) -> Option<Up> {
     let up = if after_login {
         Up::frames(alloc)

@@ -78,7 +78,7 @@ fn held_on(alloc: Global, bench: MemoryBench, slots: u16) -> u16
     }
 }
 
-// A ring of 16 slots whose power was lost inside a `put` after so many calls, or behind it, and whether that was stored.
+// A ring of 16 slots whose power was lost inside a `put` after N calls, or after it, and whether that was stored.
 fn torn(alloc: Global, calls: u64, tear: Tear) -> Option<(bool, Ring<MemoryBench>)> {
     let mut ring = formatted(alloc, 16)?;
     ring.arm(calls, tear);
@@ -86,7 +86,7 @@ fn torn(alloc: Global, calls: u64, tear: Tear) -> Option<(bool, Ring<MemoryBench
     Some((stored, ring))
 }
 
-// A power loss inside a `put` into 16 slots after so many calls: whether it was stored, and how many are held afterwards.
+// A power loss inside a `put` into 16 slots after N calls: whether it was stored, and how many are held afterwards.
 fn put_cut(alloc: Global, calls: u64, tear: Tear) -> (bool, u16) {
     match torn(alloc, calls, tear) {
         Some((stored, ring)) => (stored, held_on(alloc, restarted(ring), 16)),
@@ -94,7 +94,7 @@ fn put_cut(alloc: Global, calls: u64, tear: Tear) -> (bool, u16) {
     }
 }
 
-// Whether so many are held with this tear, by how many calls passed before the power was lost, and one where four did and the
+// Whether N are held with this tear, by how many calls passed before the power was lost, and one where four did and the
 // record was stored.
 fn cuts_hold(alloc: Global, tear: Tear, held: &[u16]) -> bool {
     for (calls, wanted) in held.iter().enumerate() {
@@ -116,7 +116,7 @@ fn a_power_loss_inside_a_put(rt: HostRuntime) -> Result<(), Fail> {
     Ok(())
 }
 
-// So many zero bytes, with two bytes at the front of slot 3 where there is one.
+// N zero bytes, with two bytes at the front of slot 3 where there is one.
 fn with_a_front(alloc: Global, size: usize, gate: u8, codec: u8) -> Option<Vec<u8>> {
     let Ok(mut bytes) = vec![in alloc; 0u8; size] else {
         return None;
@@ -139,7 +139,7 @@ fn refusal_of(alloc: Global, bytes: &[u8]) -> Option<OpenFault> {
     }
 }
 
-// What refuses a medium of so many zero bytes, with two bytes at the front of slot 3 where it has one.
+// What refuses a medium of N zero bytes, with two bytes at the front of slot 3 where it has one.
 fn refusal(alloc: Global, size: usize, gate: u8, codec: u8) -> Option<OpenFault> {
     match with_a_front(alloc, size, gate, codec) {
         Some(bytes) => refusal_of(alloc, &bytes),
@@ -220,7 +220,7 @@ fn each_call_fails_in_turn(rt: HostRuntime) -> Result<(), Fail> {
     Ok(())
 }
 
-// Stores so many records.
+// Stores N records.
 fn stores<M: Medium>(ring: &mut Ring<M>, count: u16) -> bool {
     for _ in 0..count {
         if store(ring).is_some() {

@@ -34,7 +34,7 @@ fn bytes_of(alloc: Global, text: &str) -> Option<Vec<u8>> {
     Some(bytes)
 }
 
-// A reader of a stream up, at its login or behind it.
+// A reader of a stream up, at its login or after it.
 fn reader(alloc: Global, after_login: bool) -> Option<Up> {
     let up = if after_login {
         Up::frames(alloc)
@@ -89,7 +89,7 @@ fn example_frames(rt: HostRuntime) -> Result<(), Fail> {
     Ok(())
 }
 
-// What a reader answers to one piece, with how many bytes it has then.
+// What a reader returns to one piece, with how many bytes it has then.
 fn answer(up: &mut Up, piece: &[u8]) -> Option<(usize, UpItem, u32)> {
     if up.failed() {
         return None;
@@ -260,7 +260,7 @@ fn down_answer(down: &mut Down, text: &str, alloc: Global) -> Option<(usize, Dow
     Some(down.push(&bytes))
 }
 
-// Whether a reader of a stream down takes so many bytes of a text, and answers this.
+// Whether a reader of a stream down takes N bytes of a text, and answers this.
 fn tells(alloc: Global, down: &mut Down, text: &str, taken: usize, item: DownItem) -> bool {
     down_answer(down, text, alloc) == Some((taken, item))
 }
@@ -368,7 +368,7 @@ fn push_single<L: Ledger>(up: &mut Up, bytes: &[u8], steps: &mut Steps<L>) -> To
     told
 }
 
-// What was told of some bytes, and of more behind them.
+// What was told of some bytes, and of more after them.
 fn both(a: Told, b: Told) -> Told {
     Told {
         steps: a.steps.saturating_add(b.steps),

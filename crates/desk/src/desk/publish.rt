@@ -1,4 +1,4 @@
-//! Publish: the call stands in the history, the shelf is at home, and the turn is passed on. Seats that sleep look again.
+//! Publish: the call is in the history, the shelf is at home, and the turn is passed on. Seats that sleep look again.
 ghost use Rattle.std.specs.Prelude.{◌≡◌, [], ◌∷◌, ◌++◌, Some};
 ghost use Rattle.shelf.specs.Calls.{brought_by, no_mark};
 ghost use Rattle.shelf.specs.Entries.{entry, IsLegalLog, StandsAfter};

@@ -98,7 +98,7 @@ impl<M: Medium> Desk<M> {
         ensures history { Extends (opening self.now) (numbers seat.old) (brought_by no_mark imei body.now result) (seen seat.old) (seen seat.new) }
         ensures receipt { IfOk result (λ r. r.count ≡ count_of body.now) }
 
-        // Down comes exactly where an earlier call of the history answered MediumFault.
+        // Down comes exactly where an earlier call of the history returned MediumFault.
         ensures down { IsDown result ↔ HasFault (before_last (seen seat.new)) }
 
         // Down and MediumFault carry a count above the one at the start.

@@ -1,4 +1,4 @@
--- Each write puts a slot of zero bytes behind those before.
+-- Each write puts a slot of zero bytes after those before.
 use Rattle.std.proofs.Common.{◌≡◌, ◌*◌, refl, arith, subst, replicate, ℕ}
 use Rattle.std.proofs.lemmas.Bool.{false≢true}
 use Rattle.medium_model.specs.State.{IfTold}

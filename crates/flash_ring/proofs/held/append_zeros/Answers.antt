@@ -1,4 +1,4 @@
--- The front of so many zeros.
+-- The front of N zeros.
 use Rattle.std.proofs.Common.{◌++◌, ap, ◌∙◌}
 use Rattle.std.proofs.lemmas.List.{take-replicate}
 use Rattle.flash_ring.proofs.held.append_zeros.Goals as goal

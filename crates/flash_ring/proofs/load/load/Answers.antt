@@ -1,4 +1,4 @@
--- One call more than those behind the first.
+-- One call more than those after the first.
 use Rattle.std.proofs.Common.{◌+◌, refl, arith, rules}
 use Rattle.std.proofs.lemmas.Bool.{false≢true}
 use Rattle.medium_model.proofs.Images.{counted-then, counted-as}

@@ -1,4 +1,4 @@
--- One span more stands behind the others.
+-- One span more comes after the others.
 use Rattle.std.proofs.Common.{sym, subst, List}
 use Rattle.medium.specs.Buffer.{HasMore}
 use Rattle.medium.specs.declared.spans.Span.{Span}

@@ -6,7 +6,7 @@ use Rattle.show_lines.specs.PacketLines.{packet_lines}
 use Rattle.show_lines.proofs.PacketPushed.{Missing}
 use Rattle.show_lines.proofs.packet.push_all.Given as goal
 
--- what stood there stands there still, and of a packet's lines those of the records that are left are missing
+-- what was there is there still, and of a packet's lines those of the records that are left are missing
 abbrev pub invariant-loop-record : goal.invariant-loop-record
 invariant-loop-record l =
     Extends l.fn.out.items l.out.items

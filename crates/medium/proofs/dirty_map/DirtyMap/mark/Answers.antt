@@ -1,4 +1,4 @@
--- The range was marked, and stands in the spans.
+-- The range was marked, and is in the spans.
 use Rattle.std.proofs.Common.{◌+◌, true, false, ap, arith, refl}
 use Rattle.medium.specs.Buffer.{DirtyMarks}
 use Rattle.medium.specs.declared.spans.Span.{Span}

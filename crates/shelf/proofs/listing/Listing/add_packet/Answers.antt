@@ -1,4 +1,4 @@
--- Each record is staged behind the others.
+-- Each record is staged after the others.
 use Rattle.std.proofs.Common.{◌∙◌, ◌<◌, List, ℕ, length, sym, ap, subst, arith}
 use Rattle.record_codecs.specs.Views.{records_left}
 use Rattle.record_layout.specs.RecordsOf.{records_of}
