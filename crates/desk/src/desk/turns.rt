@@ -23,9 +23,17 @@ use std::marker::Brand;
 use std::snapshot::Snapshot;
 use std::sync::Wait;
 use std::thread;
+use std::time::Duration;
 
 /// How often a seat looks before it sleeps until the turn is passed on.
 const LOOKS: u32 = 50;
+/// How many turns before its own a seat begins to wait for each that is passed on.
+const NEAR: u64 = 8;
+
+// The low 32 bits, which is what sleeping goes by.
+fn low_half(word: u64) -> u32 {
+    (word % 2u64.pow(32)) as u32
+}
 
 impl<M: Medium> Desk<M> {
     /// A desk with as many seats as asked, numbered from 0. Without memory the shelf comes back.
@@ -128,17 +136,25 @@ impl<M: Medium> Desk<M> {
             if serving == ticket {
                 return;
             }
-            if looks < LOOKS {
+            let ahead = ticket.wrapping_sub(serving);
+            if ahead > NEAR {
+                self.doze(rt, ahead - NEAR);
+            } else if looks < LOOKS {
                 looks += 1;
                 thread::yield_now();
             } else {
-                // The low 32 bits are what sleeping goes by.
-                self.table
-                    .shared
-                    .park(rt, SERVING, (serving % 2u64.pow(32)) as u32);
+                self.table.shared.park(rt, SERVING, low_half(serving));
             }
         }
         unreachable!()
+    }
+
+    // Sleeps for some 2 microseconds a turn, so that a turn that is passed on wakes those who are near it alone. Nobody is woken who
+    // sleeps on this word.
+    fn doze<R: Wait>(&self, rt: &R, turns: u64) {
+        let shared = &self.table.shared;
+        let until = Duration::from_micros(2 * turns.min(64));
+        shared.park_timeout(rt, TICKET, low_half(shared.peek(TICKET)), until);
     }
 
     /// One seat for both: it keeps what both have seen.
