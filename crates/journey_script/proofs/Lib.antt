@@ -1,7 +1,10 @@
 pub mod ConnectionLemmas
 pub mod FieldLemmas
+pub mod FieldReading
 pub mod FieldSpelling
+pub mod LineReading
 pub mod LineSpelling
+pub mod MadeLaws
 pub mod ReadingLemmas
 pub mod ScriptLaws
 pub mod SettingLaws
