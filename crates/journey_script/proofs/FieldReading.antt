@@ -1,10 +1,10 @@
 -- What is spelled of a field is read as the same.
-use Rattle.std.proofs.Common.{◌≡◌, ◌==◌, ◌+◌, ◌-◌, ◌/◌, ◌%◌, ◌^◌, ◌<◌, ◌≤◌, ℕ, ℤ, pos, negsuc, zero, suc, Bool, true, false, ◌&&◌, ◌||◌, not, nat_le, List, [], ◌∷◌, ◌++◌, length, length-append, get_or, option_map, lit<, Option, Some, None, Result, Ok, Err, refl, sym, ap, ◌∙◌, arith, if◌then◌else◌, codes, decimal}
+use Rattle.std.proofs.Common.{◌≡◌, ◌==◌, ◌+◌, ◌-◌, ◌/◌, ◌%◌, ◌^◌, ◌<◌, ◌≤◌, ℕ, ℤ, pos, negsuc, zero, suc, Bool, true, false, ◌&&◌, ◌||◌, not, nat_le, List, [], ◌∷◌, ◌++◌, length, length-append, get_or, option_map, lit<, Option, Some, None, Ok, refl, ap, ◌∙◌, arith, if◌then◌else◌, codes, decimal}
 use Rattle.std.specs.Fmt.{signed_decimal}
 use Rattle.std.specs.List.{list_all}
 use Rattle.std.specs.Str.{bytes_eq}
 use Rattle.std.proofs.lemmas.Bool.Decides.{nat_tests}
-use Rattle.std.proofs.lemmas.Fmt.{decimal_nonempty, digits_decimal, digits_value-decimal, first_decimal}
+use Rattle.std.proofs.lemmas.Fmt.{decimal_digit, decimal_nonempty, digits_decimal, digits_value-decimal, first_decimal}
 use Rattle.std.proofs.lemmas.Slice.Eq.{bytes_eq-Decides}
 use Rattle.avl_values.specs.Imei.{decimal_places, imei_text, is_digit}
 use Rattle.avl_values.specs.declared.codec.Codec.{Codec}
@@ -14,7 +14,6 @@ use Rattle.avl_values.specs.declared.order.Order.TheVariants.{Oldest, Newest}
 use Rattle.io_operands.specs.declared.setting.Operand.{Operand}
 use Rattle.medium_model.specs.declared.bench.Tear.{Tear}
 use Rattle.trial_model.specs.declared.script.Who.{Who}
-use Rattle.journey_script.specs.declared.fault.ScriptFault.{ScriptFault}
 use Rattle.journey_script.specs.declared.fault.ScriptFault.TheVariants.{BadChoice, BadImei, BadNumber}
 use Rattle.journey_script.specs.Numbers.{imei_of, is_numeral, negative, number_within, signed_within, value_of}
 use Rattle.journey_script.specs.Table.{CodecField, FieldKind, FlagField, ImeiField, LimitField, NumberField, OperandField, OrderField, Said, SignedField, TearField, WhoseField, found_or, made_or, read_field, spell_field, spell_limit, spell_whose}
@@ -51,7 +50,7 @@ some_byte : (n : ℕ) → n < 2 ^ 64 → (length (decimal n) == 0) ≡ false
 some_byte n h = let some = decimal_nonempty n h in grind (arith, nat_tests)
 
 no_zero_first : (n : ℕ) → n < 2 ^ 64 → (not (get_or (decimal n) 0 0 == 48) || (length (decimal n) == 1)) ≡ true
-no_zero_first zero h = refl
+no_zero_first zero h = ap (λ (t : List ℕ). not (get_or t 0 0 == 48) || (length t == 1)) (decimal_digit 0 (lit< tt))
 no_zero_first (suc n) h =
     let above = first_decimal (suc n) (omega arith) h in
     let apart : (get_or (decimal (suc n)) 0 0 == 48) ≡ false = grind (arith, nat_tests) in
@@ -87,7 +86,9 @@ unfolding signed_within
 signed_read limit (pos n) fits small =
     not_signed (get_or (decimal n) 0 0 == 45) _ (option_map pos (number_within 0 limit (decimal n))) (no_minus n (omega arith))
     ∙ ap (option_map pos) (number_read 0 limit n (omega arith) fits (omega arith))
-signed_read limit (negsuc n) fits small = ap (option_map negative) (number_read 1 (limit + 1) (suc n) (omega arith) (omega arith) (omega arith))
+signed_read limit (negsuc n) fits small =
+    let back : suc n - 1 ≡ n = omega arith in
+    ap (option_map negative) (number_read 1 (limit + 1) (suc n) (omega arith) (omega arith) (omega arith)) ∙ ap (λ (m : ℕ). Some (negsuc m)) back
 
 -- ---- IMEIs
 places_length : (p n : ℕ) → length (decimal_places p n) ≡ p
@@ -173,7 +174,9 @@ not_server n = by (bytes_eq (imei_text n) (codes "server")) refl
   where
     by : (b : Bool) → bytes_eq (imei_text n) (codes "server") ≡ b → b ≡ false
     by false e = refl
-    by true e = absurd (omega (arith, imei_length n, ap (λ (t : List ℕ). length t) ((bytes_eq-Decides (imei_text n) (codes "server")).0 e)))
+    by true e =
+        let six : length (imei_text n) ≡ 6 = ap (λ (t : List ℕ). length t) ((bytes_eq-Decides (imei_text n) (codes "server")).0 e) in
+        absurd (omega (arith, imei_length n, six))
 
 whose_read : (w : Who) → IsWhose w → read_field WhoseField (spell_whose w) ≡ Ok w
 whose_read (Who.Device imei) h =
@@ -185,7 +188,9 @@ not_dash n h = by (bytes_eq (decimal n) (codes "-")) refl
   where
     by : (b : Bool) → bytes_eq (decimal n) (codes "-") ≡ b → b ≡ false
     by false e = refl
-    by true e = absurd (omega (arith, first_digit n h, ap (λ (t : List ℕ). get_or t 0 0) ((bytes_eq-Decides (decimal n) (codes "-")).0 e)))
+    by true e =
+        let dash : get_or (decimal n) 0 0 ≡ 45 = ap (λ (t : List ℕ). get_or t 0 0) ((bytes_eq-Decides (decimal n) (codes "-")).0 e) in
+        absurd (omega (arith, first_digit n h, dash))
 
 limit_read : (l : Option ℕ) → IsLimit l → read_field LimitField (spell_limit l) ≡ Ok l
 limit_read None h = refl

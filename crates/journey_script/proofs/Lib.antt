@@ -1,4 +1,5 @@
 pub mod ConnectionLemmas
+pub mod DraftLemmas
 pub mod FieldLemmas
 pub mod FieldReading
 pub mod FieldSpelling

@@ -1,16 +1,17 @@
 -- What is spelled of a line is read as the same.
-use Rattle.std.proofs.Common.{◌≡◌, ◌==◌, ◌+◌, ◌-◌, ◌^◌, ◌<◌, ◌≤◌, ℕ, zero, suc, Bool, true, false, ◌&&◌, nat_le, List, [], ◌∷◌, ◌++◌, map, length, get_or, lit<, lit≤, Option, Some, None, Result, Ok, Err, refl, sym, ap, ◌∙◌, arith, if◌then◌else◌, codes}
-use Rattle.std.specs.List.{All, AllByRecursion, join_with_byte, list_all, slice_split}
+use Rattle.std.proofs.Common.{◌≡◌, ◌==◌, ◌<◌, ◌≤◌, ℕ, zero, suc, Bool, true, false, nat_le, List, [], ◌∷◌, ◌++◌, map, length, get_or, Result, Ok, Err, refl, ap, ◌∙◌, arith, if◌then◌else◌}
+use Rattle.std.specs.List.{All, AllByRecursion, join_with_byte, slice_split}
 use Rattle.std.proofs.lemmas.Bool.Decides.{nat_tests}
 use Rattle.std.proofs.lemmas.List.Splits.{slice_split_at, slice_split_none}
 use Rattle.text_lines.specs.Lines.{is_skipped}
 use Rattle.trial_model.specs.declared.script.ScriptLine.{ScriptLine}
 use Rattle.trial_model.specs.declared.script.ScriptLine.TheVariants as Line
 use Rattle.journey_script.specs.declared.fault.ScriptFault.{ScriptFault}
+use Rattle.journey_script.specs.declared.fault.ScriptFault.TheVariants.{FieldCount}
 use Rattle.journey_script.specs.declared.word.LineWord.{LineWord}
-use Rattle.journey_script.specs.Lines.{Makes, counted_line, fields_after, fields_of, first_of, fix_with, line_by, line_of, read_fields, read_values, rest_of, setting_with, worded_line, ◌>>=◌}
-use Rattle.journey_script.specs.Table.{FieldKind, Said, kinds_of, read_field, spell_field, value_kind}
-use Rattle.journey_script.specs.Words.{line_word, word_name}
+use Rattle.journey_script.specs.Lines.{Makes, fields_after, fields_of, first_of, fix_with, line_by, line_of, read_fields, read_values, rest_of, setting_with, worded_line, ◌>>=◌}
+use Rattle.journey_script.specs.Table.{FieldKind, Said, is_count_of, kinds_of, spell_field, value_kind}
+use Rattle.journey_script.specs.Words.{line_word}
 use Rattle.journey_script.specs.Writing.{Parts, spell_fields, spelled, words_of}
 use Rattle.journey_script.proofs.FieldReading.{IsSaid, field_read, field_solid, solid}
 use Rattle.journey_script.proofs.FieldSpelling.{both}
@@ -96,6 +97,9 @@ IsWritable (Line.Fuse who calls tear) = AreSaid (kinds_of LineWord.Fuse) (who, (
 abbrev WordsRead : ScriptLine → Type 0
 WordsRead line = worded_line (line_word (first_of (words_of line))) (rest_of (words_of line)) ≡ Ok line
 
+nine_fields : (n : ℕ) → 9 ≤ n → is_count_of LineWord.Fix n ≡ true
+nine_fields n h = grind (arith, nat_tests)
+
 words_read : (line : ScriptLine) → IsWritable line → WordsRead line
 unfolding line_word line_by
 words_read (Line.Device imei codec slots order period distance angle speed known) h =
@@ -104,7 +108,9 @@ words_read (Line.Setting imei s) h = fields_read (kinds_of LineWord.Io) setting_
 words_read (Line.Fix imei f) h =
     let parts : Parts (kinds_of LineWord.Fix) = (imei, (f.time, (f.gps.longitude, (f.gps.latitude, (f.gps.altitude, (f.gps.angle, (f.gps.satellites, (f.gps.speed, (f.odometer, tt))))))))) in
     let values = map (spell_field value_kind) f.values.items in
-    ap (λ (r : Result (List ℕ → ScriptLine) ScriptFault). r >>= (λ make. read_values values >>= (λ values. Ok (make values)))) (fields_read (kinds_of LineWord.Fix) fix_with parts values h.0)
+    let fields = spell_fields (kinds_of LineWord.Fix) parts ++ values in
+    ap (λ (b : Bool). if b then line_by LineWord.Fix fields else Err FieldCount) (nine_fields (length fields) (omega arith))
+    ∙ ap (λ (r : Result (List ℕ → ScriptLine) ScriptFault). r >>= (λ make. read_values values >>= (λ values. Ok (make values)))) (fields_read (kinds_of LineWord.Fix) fix_with parts values h.0)
     ∙ ap (λ (r : Result (List ℕ) ScriptFault). r >>= (λ values. Ok (apply (kinds_of LineWord.Fix) fix_with parts values))) (values_read f.values.items h.1)
 words_read (Line.Round imei piece up down) h = fields_read (kinds_of LineWord.Round) Line.Round (imei, (piece, (up, (down, tt)))) [] h
 words_read (Line.Drain imei piece) h = fields_read (kinds_of LineWord.Drain) Line.Drain (imei, (piece, tt)) [] h
@@ -127,7 +133,7 @@ words_solid (Line.Close connection) h = (refl, fields_solid (kinds_of LineWord.C
 words_solid (Line.Power who) h = (refl, fields_solid (kinds_of LineWord.Power) (who, tt) [] h tt)
 words_solid (Line.Fuse who calls tear) h = (refl, fields_solid (kinds_of LineWord.Fuse) (who, (calls, (tear, tt))) [] h tt)
 
-first_and_rest : (line : ScriptLine) → first_of (words_of line) ∷ rest_of (words_of line) ≡ words_of line
+pub first_and_rest : (line : ScriptLine) → first_of (words_of line) ∷ rest_of (words_of line) ≡ words_of line
 first_and_rest (Line.Device imei codec slots order period distance angle speed known) = refl
 first_and_rest (Line.Setting imei s) = refl
 first_and_rest (Line.Fix imei f) = refl

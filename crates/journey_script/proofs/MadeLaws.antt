@@ -1,17 +1,15 @@
 -- Lines that were made rather than read are those of a script.
-use Rattle.std.proofs.Common.{◌≡◌, ◌+◌, ◌-◌, ◌^◌, ◌≤◌, ℕ, zero, suc, List, [], ◌∷◌, ◌++◌, map, replicate, length, Option, None, Result, Ok, refl, sym, ap, ◌∙◌, append_assoc, arith}
+use Rattle.std.proofs.Common.{◌≡◌, ◌+◌, ◌-◌, ◌^◌, ◌≤◌, ℕ, List, [], ◌∷◌, ◌++◌, map, replicate, length, None, Result, Ok, refl, sym, ap, subst, ◌∙◌, append_assoc, arith}
 use Rattle.std.specs.List.{AllByRecursion, enumerate_from, fold, join_with_byte}
 use Rattle.std.proofs.lemmas.List.{append-nil, map_push}
-use Rattle.text_lines.specs.Lines.{content_from, content_lines, is_skipped}
+use Rattle.text_lines.specs.Lines.{content_from, content_lines}
 use Rattle.trial_model.specs.Script.{Script, lines_of}
 use Rattle.trial_model.specs.declared.script.ScriptLine.{ScriptLine}
-use Rattle.trial_model.specs.declared.script.ScriptLine.TheVariants as Line
-use Rattle.journey_script.specs.declared.fault.ScriptFault.{ScriptFault}
-use Rattle.journey_script.specs.Grammar.{IsScript, Refusal, script_of, with_judged, with_line, with_text_line}
+use Rattle.journey_script.specs.Grammar.{IsScript, Refusal, with_judged, with_line, with_text_line}
 use Rattle.journey_script.specs.Later.{later_fault}
-use Rattle.journey_script.specs.Lines.{line_of}
+use Rattle.journey_script.specs.Lines.{first_of, line_of, rest_of}
 use Rattle.journey_script.specs.Writing.{spelled, words_of, written}
-use Rattle.journey_script.proofs.LineReading.{IsWritable, line_kept, line_read}
+use Rattle.journey_script.proofs.LineReading.{IsWritable, first_and_rest, line_kept, line_read}
 use Rattle.journey_script.proofs.ReadingLemmas.{whole_text}
 use Rattle.journey_script.proofs.ScriptLaws.{AreSound}
 use Rattle.journey_script.proofs.WrittenLemmas.{AllKept, AllSay, AreRising, Texts, clean_with, content_with, join_most, join_total, lines_again, lines_with, texts_of, total, written_as}
@@ -51,7 +49,7 @@ read_on n before [] h sound = ap Ok (sym (append-nil before))
 read_on n before (line ∷ lines) h sound =
     let first : with_line before n (line_of (spelled line)) ≡ Ok (before ++ (n, line) ∷ []) = ap (with_line before n) (line_read line h.0) ∙ judged before n line sound.0 in
     let more : lines_of (before ++ (n, line) ∷ []) ≡ lines_of before ++ line ∷ [] = map_push (λ (l : ℕ × ScriptLine). l.1) before (n, line) in
-    let rest : AreSound (lines_of (before ++ (n, line) ∷ [])) lines = rw more sound.1 in
+    let rest : AreSound (lines_of (before ++ (n, line) ∷ [])) lines = subst (λ (ls : List ScriptLine). AreSound ls lines) (sym more) sound.1 in
     ap (λ (r : Result Script Refusal). fold with_text_line r (texts (n + 1) lines)) first
     ∙ read_on (n + 1) (before ++ (n, line) ∷ []) lines h.1 rest ∙ ap Ok (append_assoc before ((n, line) ∷ []) (enumerate_from (n + 1) lines))
 
@@ -72,15 +70,11 @@ is_script lines h sound few =
     let short : length text ≤ 2 ^ 24 = omega (arith, ap (λ (t : List ℕ). length t) whole, join_most (map spelled lines) (2 ^ 24) few) in
     record { text = text; is_read = whole_text text short ∙ ap (fold with_text_line (Ok [])) (content lines h) ∙ read_on 1 [] lines h sound }
 
+joined_total : (words : List (List ℕ)) → first_of words ∷ rest_of words ≡ words → length (join_with_byte 32 words) + 1 ≡ total words
+joined_total [] e = absurd (cc)
+joined_total (x ∷ xs) e = join_total 32 x xs
+
 -- The bytes of a line, and of its end.
 pub spelled_total : (line : ScriptLine) → length (spelled line) + 1 ≡ total (words_of line)
 unfolding spelled
-spelled_total (Line.Device imei codec slots order period distance angle speed known) = join_total 32 _ _
-spelled_total (Line.Setting imei s) = join_total 32 _ _
-spelled_total (Line.Fix imei f) = join_total 32 _ _
-spelled_total (Line.Round imei piece up down) = join_total 32 _ _
-spelled_total (Line.Drain imei piece) = join_total 32 _ _
-spelled_total (Line.Late connection bytes) = join_total 32 _ _
-spelled_total (Line.Close connection) = join_total 32 _ _
-spelled_total (Line.Power who) = join_total 32 _ _
-spelled_total (Line.Fuse who calls tear) = join_total 32 _ _
+spelled_total line = joined_total (words_of line) (first_and_rest line)

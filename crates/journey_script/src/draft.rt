@@ -1,4 +1,4 @@
-ghost use Rattle.std.specs.Prelude.{◌≡◌, ◌<◌, ◌≤◌, ◌^◌, ◌++◌, [], ◌∷◌, length, vec_len, IfOk, OnErr, OnOk};
+ghost use Rattle.std.specs.Prelude.{◌≡◌, ◌-◌, ◌<◌, ◌≤◌, ◌^◌, ◌++◌, [], ◌∷◌, length, vec_len, IfOk, OnErr, OnOk};
 ghost use Rattle.std.specs.List.{enumerate_from};
 ghost use Rattle.journey_script.specs.Compact.{HasFewValues, line_in};
 ghost use Rattle.journey_script.specs.Grammar.{IsScript};

@@ -44,8 +44,8 @@ on_start devices = record {
   time = refl;
   rounds = omega arith;
   vehicles = length-replicate devices parked;
-  odometers = λ device. omega (arith, parked_odometer devices (device - 1));
-  angles = λ device. omega (arith, parked_angle devices (device - 1));
+  odometers = λ place. omega (arith, parked_odometer devices place);
+  angles = λ place. omega (arith, parked_angle devices place);
 }
 
 one_round : (event : Event) → rounds_of event ≤ 1
@@ -71,22 +71,21 @@ on_next devices turns stand turn on range =
     let place = turn.device - 1 in
     let new = moved turn (vehicle_at turn.device stand) in
     let below : place < length stand.vehicles = omega (arith, range.first, range.last, on.vehicles) in
-    let far : new.odometer ≤ 39 * suc turns = omega (arith, on.odometers turn.device, range.speed) in
-    let far_all : (k : ℕ) → (get_or stand.vehicles k parked).odometer ≤ 39 * suc turns = λ k. omega (arith, on.odometers (k + 1)) in
-    let angles : (k : ℕ) → (get_or stand.vehicles k parked).angle < 360 = λ k. on.angles (suc k) in
+    let far : new.odometer ≤ 39 * suc turns = omega (arith, on.odometers (turn.device - 1), range.speed) in
+    let far_all : (k : ℕ) → (get_or stand.vehicles k parked).odometer ≤ 39 * suc turns = λ k. omega (arith, on.odometers k) in
     record {
       time = omega (arith, on.time);
       rounds = omega (arith, on.rounds, one_round turn.event);
       vehicles = length-set stand.vehicles place new ∙ on.vehicles;
-      odometers = λ device. each_vehicle (λ v. v.odometer ≤ 39 * suc turns) stand.vehicles place new below far far_all (device - 1);
-      angles = λ device. each_vehicle (λ v. v.angle < 360) stand.vehicles place new below (omega arith) angles (device - 1);
+      odometers = λ at. each_vehicle (λ v. v.odometer ≤ 39 * suc turns) stand.vehicles place new below far far_all at;
+      angles = λ at. each_vehicle (λ v. v.angle < 360) stand.vehicles place new below (omega arith) on.angles at;
     }
 
 pub has_room : (devices turns : ℕ) (stand : Stand) → turns ≤ 100000 → IsOn devices turns stand → HasRoom stand
 has_room devices turns stand few on = record {
   time = omega (arith, on.time);
   rounds = omega (arith, on.rounds);
-  odometers = λ device. omega (arith, on.odometers device);
+  odometers = λ place. omega (arith, on.odometers place);
   angles = on.angles;
 }
 
@@ -121,8 +120,8 @@ fix_short : (stand : Stand) (turn : Turn) (devices : ℕ) → devices ≤ 64 →
 fix_short stand turn devices few room range =
     let line = Line.Fix (imei_at turn.device) (fix_of stand turn) in
     let vehicle = vehicle_at turn.device stand in
-    let angle = room.angles turn.device in
-    let odometer = room.odometers turn.device in
+    let angle = room.angles (turn.device - 1) in
+    let odometer = room.odometers (turn.device - 1) in
     let imei : imei_at turn.device < 10 ^ 15 = omega (arith, range.last) in
     let time : length (decimal stand.time) ≤ 13 = few_digits 13 stand.time (omega arith) (omega arith) (omega (arith, room.time)) in
     let east : length (decimal (250000000 + turn.east)) ≤ 9 = few_digits 9 _ (omega arith) (omega arith) (omega (arith, range.east)) in
@@ -136,7 +135,7 @@ fix_short stand turn devices few room range =
       (
         imei,
         (
-          (omega arith, (omega (arith, room.time), lit< tt)),
+          (omega arith, omega (arith, room.time), lit< tt),
           (
             (omega (arith, range.east), lit< tt),
             (
@@ -144,15 +143,15 @@ fix_short stand turn devices few room range =
               (
                 (omega arith, lit< tt),
                 (
-                  (omega arith, (omega (arith, angle), lit< tt)),
-                  ((omega arith, (omega arith, lit< tt)), ((omega arith, (omega (arith, range.speed), lit< tt)), ((omega arith, (omega (arith, odometer), lit< tt)), tt))),
+                  (omega arith, omega (arith, angle), lit< tt),
+                  ((omega arith, omega arith, lit< tt), ((omega arith, omega (arith, range.speed), lit< tt), ((omega arith, omega (arith, odometer), lit< tt), tt))),
                 ),
               ),
             ),
           ),
         ),
       ),
-      ((omega arith, (omega (arith, range.ignition), lit< tt)), ((omega arith, (omega (arith, range.voltage), lit< tt)), tt)),
+      ((omega arith, omega (arith, range.ignition), lit< tt), ((omega arith, omega (arith, range.voltage), lit< tt), tt)),
     ) in
     short_line line 84 writable (omega (arith, time, east, north, a, s, o, i, v, imei_length (imei_at turn.device)))
 
@@ -170,27 +169,27 @@ IsUp (Some n) = n < 200
 round_short : (imei piece : ℕ) (up : Option ℕ) → imei < 10 ^ 15 → 1 ≤ piece → piece ≤ 64 → IsUp up → IsShort (Line.Round imei piece up None ∷ []) 31
 round_short imei piece None small first last up =
     let p : length (decimal piece) ≤ 2 = few_digits 2 piece (omega arith) (omega arith) (omega arith) in
-    short_line (Line.Round imei piece None None) 31 (small, ((first, (omega arith, lit< tt)), (tt, (tt, tt)))) (omega (arith, p, imei_length imei))
+    short_line (Line.Round imei piece None None) 31 (small, ((first, omega arith, lit< tt), (tt, (tt, tt)))) (omega (arith, p, imei_length imei))
 round_short imei piece (Some n) small first last up =
     let p : length (decimal piece) ≤ 2 = few_digits 2 piece (omega arith) (omega arith) (omega arith) in
     let u : length (decimal n) ≤ 3 = few_digits 3 n (omega arith) (omega arith) (omega arith) in
-    short_line (Line.Round imei piece (Some n) None) 31 (small, ((first, (omega arith, lit< tt)), (omega arith, (tt, tt)))) (omega (arith, p, u, imei_length imei))
+    short_line (Line.Round imei piece (Some n) None) 31 (small, ((first, omega arith, lit< tt), (omega arith, (tt, tt)))) (omega (arith, p, u, imei_length imei))
 
 event_short : (imei rounds : ℕ) (event : Event) → imei < 10 ^ 15 → rounds ≤ 100000 → IsEvent event → IsShort (event_lines imei rounds event) 60
 event_short imei rounds (WholeRound piece) small few range = short_less _ 31 60 (omega arith) (round_short imei piece None small range.0 range.1 tt)
 event_short imei rounds (CutRound piece up) small few range =
     let d : length (decimal rounds) ≤ 6 = few_digits 6 rounds (omega arith) (omega arith) (omega arith) in
     let round = round_short imei piece (Some up) small range.0.0 range.0.1 range.1 in
-    let late = short_line (Line.Late rounds None) 15 ((omega arith, (omega arith, lit< tt)), (tt, tt)) (omega (arith, d)) in
-    let close = short_line (Line.Close rounds) 14 ((omega arith, (omega arith, lit< tt)), tt) (omega (arith, d)) in
+    let late = short_line (Line.Late rounds None) 15 ((omega arith, omega arith, lit< tt), (tt, tt)) (omega (arith, d)) in
+    let close = short_line (Line.Close rounds) 14 ((omega arith, omega arith, lit< tt), tt) (omega (arith, d)) in
     short_append (Line.Round imei piece (Some up) None ∷ []) (Line.Late rounds None ∷ Line.Close rounds ∷ []) 31 29 round (short_append (Line.Late rounds None ∷ []) (Line.Close rounds ∷ []) 15 14 late close)
 event_short imei rounds Power small few range = short_line (Line.Power (Who.Device imei)) 60 (small, tt) (omega (arith, imei_length imei))
 event_short imei rounds (DeviceFuse calls tear) small few range =
     let d : length (decimal calls) ≤ 1 = few_digits 1 calls (omega arith) (omega arith) (omega arith) in
-    short_line (Line.Fuse (Who.Device imei) calls tear) 60 (small, ((omega arith, (omega arith, lit< tt)), (tt, tt))) (omega (arith, d, imei_length imei, tear_short tear))
+    short_line (Line.Fuse (Who.Device imei) calls tear) 60 (small, ((omega arith, omega arith, lit< tt), (tt, tt))) (omega (arith, d, imei_length imei, tear_short tear))
 event_short imei rounds (ServerFuse calls tear) small few range =
     let d : length (decimal calls) ≤ 1 = few_digits 1 calls (omega arith) (omega arith) (omega arith) in
-    short_line (Line.Fuse Who.Server calls tear) 60 (tt, ((omega arith, (omega arith, lit< tt)), (tt, tt))) (omega (arith, d, tear_short tear))
+    short_line (Line.Fuse Who.Server calls tear) 60 (tt, ((omega arith, omega arith, lit< tt), (tt, tt))) (omega (arith, d, tear_short tear))
 event_short imei rounds Nothing small few range = record { writable = tt; bytes = omega arith }
 
 turn_short : (devices : ℕ) (stand : Stand) (turn : Turn) → devices ≤ 64 → HasRoom stand → IsTurn devices turn → IsShort (lines_at stand turn) 144
@@ -226,32 +225,32 @@ device_short device few =
       imei,
       (
         tt,
-        ((lit≤ tt, (lit≤ tt, lit< tt)), (tt, ((lit≤ tt, (lit≤ tt, lit< tt)), ((lit≤ tt, (lit≤ tt, lit< tt)), ((lit≤ tt, (lit≤ tt, lit< tt)), ((lit≤ tt, (lit≤ tt, lit< tt)), (tt, tt))))))),
+        ((lit≤ tt, lit≤ tt, lit< tt), (tt, ((lit≤ tt, lit≤ tt, lit< tt), ((lit≤ tt, lit≤ tt, lit< tt), ((lit≤ tt, lit≤ tt, lit< tt), ((lit≤ tt, lit≤ tt, lit< tt), (tt, tt))))))),
       ),
     ) (omega (arith, size, codec_short (codec_at device))) in
     let two = short_line b 75 (
       imei,
-      ((lit≤ tt, (lit≤ tt, lit< tt)), ((lit≤ tt, (lit≤ tt, lit< tt)), (tt, ((lit≤ tt, (lit≤ tt, lit< tt)), ((lit≤ tt, (lit≤ tt, lit< tt)), ((lit≤ tt, (lit≤ tt, lit< tt)), tt)))))),
+      ((lit≤ tt, lit≤ tt, lit< tt), ((lit≤ tt, lit≤ tt, lit< tt), (tt, ((lit≤ tt, lit≤ tt, lit< tt), ((lit≤ tt, lit≤ tt, lit< tt), ((lit≤ tt, lit≤ tt, lit< tt), tt)))))),
     ) (omega (arith, size)) in
     let three = short_line c 75 (
       imei,
-      ((lit≤ tt, (lit≤ tt, lit< tt)), ((lit≤ tt, (lit≤ tt, lit< tt)), (tt, ((lit≤ tt, (lit≤ tt, lit< tt)), ((lit≤ tt, (lit≤ tt, lit< tt)), ((lit≤ tt, (lit≤ tt, lit< tt)), tt)))))),
+      ((lit≤ tt, lit≤ tt, lit< tt), ((lit≤ tt, lit≤ tt, lit< tt), (tt, ((lit≤ tt, lit≤ tt, lit< tt), ((lit≤ tt, lit≤ tt, lit< tt), ((lit≤ tt, lit≤ tt, lit< tt), tt)))))),
     ) (omega (arith, size)) in
     short_append (a ∷ []) (b ∷ c ∷ []) 100 150 one (short_append (b ∷ []) (c ∷ []) 75 75 two three)
 
-drain_short : (device : ℕ) → device ≤ 64 → IsShort (drain_lines device) 60
+drain_short : (device : ℕ) → device ≤ 64 → IsShort (drain_lines device) 250
 drain_short device few =
     let drain = Line.Drain (imei_at device) 512 in
     let imei : imei_at device < 10 ^ 15 = omega arith in
-    let one = short_line drain 30 (imei, ((lit≤ tt, (lit≤ tt, lit< tt)), tt)) (omega (arith, imei_length (imei_at device))) in
-    short_append (drain ∷ []) (drain ∷ []) 30 30 one one
+    let one = short_line drain 30 (imei, ((lit≤ tt, lit≤ tt, lit< tt), tt)) (omega (arith, imei_length (imei_at device))) in
+    short_less _ 60 250 (omega arith) (short_append (drain ∷ []) (drain ∷ []) 30 30 one one)
 
-devices_short : (lines : ℕ → List ScriptLine) (most devices : ℕ) → devices ≤ 64 → ((device : ℕ) → device ≤ 64 → IsShort (lines device) most) → IsShort (of_devices lines devices) (devices * most)
+devices_short : (lines : ℕ → List ScriptLine) (devices : ℕ) → devices ≤ 64 → ((device : ℕ) → device ≤ 64 → IsShort (lines device) 250) → IsShort (of_devices lines devices) (250 * devices)
 unfolding of_devices
-devices_short lines most zero few each = record { writable = tt; bytes = omega arith }
-devices_short lines most (suc devices) few each =
-    short_less _ (devices * most + most) (suc devices * most) (omega arith)
-    (short_append (of_devices lines devices) (lines (suc devices)) (devices * most) most (devices_short lines most devices (omega arith) each) (each (suc devices) few))
+devices_short lines zero few each = record { writable = tt; bytes = omega arith }
+devices_short lines (suc devices) few each =
+    short_less _ (250 * devices + 250) (250 * suc devices) (omega arith)
+    (short_append (of_devices lines devices) (lines (suc devices)) (250 * devices) 250 (devices_short lines devices (omega arith) each) (each (suc devices) few))
 
 turns_length : (devices turns : ℕ) (g : _) → length (drawn_turns devices turns g) ≡ turns
 unfolding drawn_turns
@@ -263,9 +262,9 @@ unfolding made_lines
 made_short seed devices fixes some few most =
     let turns = drawn_turns devices fixes (seeded seed) in
     let count = turns_length devices fixes (seeded seed) in
-    let first = devices_short device_lines 250 devices few device_short in
+    let first = devices_short device_lines devices few device_short in
     let middle = turns_short devices 0 (started devices) turns few (omega (arith, count)) (on_start devices) (turns_range devices fixes (seeded seed) some) in
-    let last = devices_short drain_lines 60 devices few drain_short in
-    let all = short_append (of_devices device_lines devices) (turn_lines (started devices) turns ++ of_devices drain_lines devices) (devices * 250) (144 * length turns + devices * 60) first
-        (short_append (turn_lines (started devices) turns) (of_devices drain_lines devices) (144 * length turns) (devices * 60) middle last) in
+    let last = devices_short drain_lines devices few drain_short in
+    let all = short_append (of_devices device_lines devices) (turn_lines (started devices) turns ++ of_devices drain_lines devices) (250 * devices) (144 * length turns + 250 * devices) first
+        (short_append (turn_lines (started devices) turns) (of_devices drain_lines devices) (144 * length turns) (250 * devices) middle last) in
     (all.writable, omega (arith, all.bytes, count))

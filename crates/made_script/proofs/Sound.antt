@@ -114,9 +114,9 @@ added rounds lines line c known some is =
           ∙ ap (λ (xs : List ℕ). if is_some fuse then [] else xs) (appended ∙ ap (λ (xs : List ℕ). if c.half_open then xs ++ (rounds + 1) ∷ [] else xs) known.none_open);
     }
 
-none_left : (covered : Bool) → (if covered then [] else []) ≡ the (List ℕ) []
-none_left true = refl
-none_left false = refl
+none_left : (covered : Bool) (xs : List ℕ) → xs ≡ [] → (if covered then [] else xs) ≡ []
+none_left true xs e = refl
+none_left false xs e = e
 
 one_left : (k : ℕ) (covered : Bool) → (length (if covered then [] else k ∷ []) ≤ 1) × (filter (λ j. not (j == k)) (if covered then [] else k ∷ []) ≡ [])
 one_left k true = (omega arith, refl)
@@ -171,10 +171,10 @@ takes_line : (devices rounds : ℕ) (lines : List ScriptLine) (line : ScriptLine
 takes_line devices rounds lines line enrols quiet sound keeps none same =
     record { sound = (sound, tt); enrols = enrols_push devices lines line enrols keeps; quiet = quiet_push rounds lines line quiet none same }
 
-fix_takes : (devices rounds device : ℕ) (lines : List ScriptLine) (stand : Stand) (turn : Turn) → Enrols devices lines → IsQuiet rounds lines → IsTurn devices turn
+fix_takes : (devices rounds : ℕ) (lines : List ScriptLine) (stand : Stand) (turn : Turn) → Enrols devices lines → IsQuiet rounds lines → IsTurn devices turn
     → Takes devices rounds lines (Line.Fix (imei_at turn.device) (fix_of stand turn) ∷ [])
 unfolding later_fault
-fix_takes devices rounds device lines stand turn enrols quiet range =
+fix_takes devices rounds lines stand turn enrols quiet range =
     takes_line devices rounds lines (Line.Fix (imei_at turn.device) (fix_of stand turn)) enrols quiet (unless_ok (enrolled_in lines (imei_at turn.device)) _ (enrols.settings turn.device range.first range.last)
     (λ d is. ap (λ (s : List IoSetting). values_fault s (turn.ignition ∷ turn.voltage ∷ [])) is ∙ values_fit turn.ignition turn.voltage range.ignition range.voltage))
     (λ imei e. closes (imei_at turn.device) imei e) refl refl
@@ -208,7 +208,7 @@ drain_takes devices rounds device piece lines enrols quiet first last =
     record {
       sound = (unless_ok (enrolled_in lines (imei_at device)) (λ d. None) (enrols.settings device first last) (λ d is. refl), tt);
       enrols = enrols_push devices lines line enrols (λ imei e. closes (imei_at device) imei e);
-      quiet = record { count = a.count; made = a.made; none_open = a.open ∙ none_left (is_some (server_of lines).fuse) };
+      quiet = record { count = a.count; made = a.made; none_open = a.open ∙ none_left (is_some (server_of lines).fuse) [] refl };
     }
 
 open_few : (lines : List ScriptLine) → length (open_from 1 (connections_of lines)) ≤ 1 → when (nat_lt 64 (open_count lines)) TooManyOpen ≡ None
@@ -221,7 +221,7 @@ round_takes devices rounds device piece lines enrols quiet first last =
     let line = Line.Round (imei_at device) piece None None in
     let opening = record { imei = imei_at device; drains = false; up = None; down = None } in
     let a = added rounds lines line (opened lines line opening) quiet refl refl in
-    let none = a.open ∙ none_left (is_some (server_of lines).fuse) in
+    let none = a.open ∙ none_left (is_some (server_of lines).fuse) [] refl in
     let few = open_few (lines ++ line ∷ []) (omega (arith, ap (λ (xs : List ℕ). length xs) none)) in
     record {
       sound = (unless_ok (enrolled_in lines (imei_at device)) _ (enrols.settings device first last) (λ d is. few), tt);
@@ -333,7 +333,7 @@ turn_takes : (devices : ℕ) (stand : Stand) (turn : Turn) (lines : List ScriptL
 unfolding after_turn
 turn_takes devices stand turn lines range enrols quiet =
     let after = after_turn stand turn in
-    let fix = fix_takes devices stand.rounds turn.device lines after turn enrols quiet range in
+    let fix = fix_takes devices stand.rounds lines after turn enrols quiet range in
     let event = event_takes devices stand.rounds turn.device turn.event _ fix.enrols fix.quiet range.first range.last in
     takes_append devices after.rounds stand.rounds lines (Line.Fix (imei_at turn.device) (fix_of after turn) ∷ []) (event_lines (imei_at turn.device) after.rounds turn.event) fix event
 

@@ -1,7 +1,6 @@
 //! What is drawn for a made script.
 ghost use Rattle.std.specs.Prelude.{◌≡◌, ◌<◌, ◌≤◌};
 ghost use Rattle.made_script.specs.Draws.{draw, drawn_event, drawn_turn, event_of, tear_at};
-ghost use Rattle.made_script.specs.Ranges.{IsEvent, IsTurn};
 
 use crate::turn::{Event, Turn};
 use medium_model::Tear;
@@ -35,7 +34,6 @@ fn tear_at(number: u32) -> Tear
 fn draw_event(generator: &mut Pcg32) -> Event
     ensures drawn { result ≡ (drawn_event generator.old).0 }
     ensures next { generator.new ≡ (drawn_event generator.old).1 }
-    ensures range { IsEvent result }
 {
     let number = draw(generator, 16);
     event_of(generator, number)
@@ -46,7 +44,6 @@ fn draw_event(generator: &mut Pcg32) -> Event
 fn event_of(generator: &mut Pcg32, number: u32) -> Event
     ensures drawn { result ≡ (event_of number generator.old).0 }
     ensures next { generator.new ≡ (event_of number generator.old).1 }
-    ensures range { IsEvent result }
 {
     match number {
         0..=3 => Event::WholeRound {
@@ -76,7 +73,6 @@ pub fn draw_turn(generator: &mut Pcg32, devices: u32) -> Turn
     requires most { devices ≤ 64 }
     ensures drawn { result ≡ (drawn_turn devices generator.old).0 }
     ensures next { generator.new ≡ (drawn_turn devices generator.old).1 }
-    ensures range { IsTurn devices result }
 {
     Turn {
         device: 1 + draw(generator, devices),
