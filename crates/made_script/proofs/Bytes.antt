@@ -1,9 +1,8 @@
 -- The fields of a made script are in their ranges, and its text is short.
-use Rattle.std.proofs.Common.{◌≡◌, ◌==◌, ◌+◌, ◌-◌, ◌*◌, ◌/◌, ◌%◌, ◌^◌, ◌<◌, ◌≤◌, ℕ, zero, suc, pos, Bool, true, false, List, [], ◌∷◌, ◌++◌, map, length, length-append, replicate, set, get_or, Option, Some, None, lit<, lit≤, refl, sym, ap, subst, ◌∙◌, arith, decimal}
-use Rattle.std.specs.List.{AllByRecursion}
+use Rattle.std.proofs.Common.{◌≡◌, ◌+◌, ◌-◌, ◌*◌, ◌^◌, ◌<◌, ◌≤◌, ℕ, zero, suc, true, List, [], ◌∷◌, ◌++◌, map, length, replicate, set, get_or, Option, Some, None, lit<, lit≤, refl, ap, ◌∙◌, arith, decimal}
 use Rattle.std.proofs.Math.Nat.{pow-le-pow_right}
 use Rattle.std.proofs.lemmas.Fmt.{length-decimal-le}
-use Rattle.std.proofs.lemmas.List.{get_or-replicate, get_or-set_other, get_or-set_same, length-replicate, length-set, map-append}
+use Rattle.std.proofs.lemmas.List.{length-replicate, length-set, map-append}
 use Rattle.avl_values.specs.Imei.{imei_text}
 use Rattle.avl_values.specs.declared.codec.Codec.{Codec}
 use Rattle.avl_values.specs.declared.codec.Codec.TheVariants.{C8, C8E, C16}
@@ -65,19 +64,19 @@ each_vehicle P (v ∷ vs) zero new below is all (suc k) = all (suc k)
 each_vehicle P (v ∷ vs) (suc place) new below is all zero = all zero
 each_vehicle P (v ∷ vs) (suc place) new below is all (suc k) = each_vehicle P vs place new (omega arith) is (λ k. all (suc k)) k
 
-pub on_next : (devices turns : ℕ) (stand : Stand) (turn : Turn) → IsOn devices turns stand → IsTurn devices turn → IsOn devices (suc turns) (after_turn stand turn)
+pub on_next : (devices turns : ℕ) (stand : Stand) (turn : Turn) → IsOn devices turns stand → IsTurn devices turn → IsOn devices (turns + 1) (after_turn stand turn)
 unfolding after_turn
 on_next devices turns stand turn on range =
     let place = turn.device - 1 in
     let new = moved turn (vehicle_at turn.device stand) in
     let below : place < length stand.vehicles = omega (arith, range.first, range.last, on.vehicles) in
-    let far : new.odometer ≤ 39 * suc turns = omega (arith, on.odometers (turn.device - 1), range.speed) in
-    let far_all : (k : ℕ) → (get_or stand.vehicles k parked).odometer ≤ 39 * suc turns = λ k. omega (arith, on.odometers k) in
+    let far : new.odometer ≤ 39 * (turns + 1) = omega (arith, on.odometers (turn.device - 1), range.speed) in
+    let far_all : (k : ℕ) → (get_or stand.vehicles k parked).odometer ≤ 39 * (turns + 1) = λ k. omega (arith, on.odometers k) in
     record {
       time = omega (arith, on.time);
       rounds = omega (arith, on.rounds, one_round turn.event);
       vehicles = length-set stand.vehicles place new ∙ on.vehicles;
-      odometers = λ at. each_vehicle (λ v. v.odometer ≤ 39 * suc turns) stand.vehicles place new below far far_all at;
+      odometers = λ at. each_vehicle (λ v. v.odometer ≤ 39 * (turns + 1)) stand.vehicles place new below far far_all at;
       angles = λ at. each_vehicle (λ v. v.angle < 360) stand.vehicles place new below (omega arith) on.angles at;
     }
 
@@ -153,7 +152,12 @@ fix_short stand turn devices few room range =
       ),
       ((omega arith, omega (arith, range.ignition), lit< tt), ((omega arith, omega (arith, range.voltage), lit< tt), tt)),
     ) in
-    short_line line 84 writable (omega (arith, time, east, north, a, s, o, i, v, imei_length (imei_at turn.device)))
+    let bytes : total (words_of line) ≡ 4 + ((length (imei_text (imei_at turn.device)) + 1) + ((length (decimal stand.time) + 1) + ((length (decimal (250000000 + turn.east)) + 1)
+    + ((length (decimal (546000000 + turn.north)) + 1) + ((length (decimal 100) + 1) + ((length (decimal vehicle.angle) + 1) + ((length (decimal 9) + 1) + ((length (decimal turn.speed) + 1)
+    + ((length (decimal vehicle.odometer) + 1) + ((length (decimal turn.ignition) + 1) + ((length (decimal turn.voltage) + 1) + 0))))))))))) = refl in
+    let altitude : length (decimal 100) ≤ 3 = few_digits 3 100 (lit< tt) (lit≤ tt) (lit< tt) in
+    let satellites : length (decimal 9) ≤ 1 = few_digits 1 9 (lit< tt) (lit≤ tt) (lit< tt) in
+    short_line line 84 writable (omega (arith, bytes, time, east, north, altitude, a, satellites, s, o, i, v, imei_length (imei_at turn.device)))
 
 tear_short : (tear : Tear) → length (tear_name tear) ≤ 4
 tear_short Tear.Keep = omega arith
@@ -205,8 +209,8 @@ turns_short devices done stand [] few most on range = record { writable = tt; by
 turns_short devices done stand (turn ∷ turns) few most on range =
     let after = after_turn stand turn in
     let next = on_next devices done stand turn on range.0 in
-    let first = turn_short devices after turn few (has_room devices (suc done) after (omega arith) next) range.0 in
-    let rest = turns_short devices (suc done) after turns few (omega arith) next range.1 in
+    let first = turn_short devices after turn few (has_room devices (done + 1) after (omega arith) next) range.0 in
+    let rest = turns_short devices (done + 1) after turns few (omega arith) next range.1 in
     short_less _ (144 + 144 * length turns) (144 * suc (length turns)) (omega arith) (short_append (lines_at after turn) (turn_lines after turns) 144 (144 * length turns) first rest)
 
 codec_short : (codec : Codec) → length (codec_name codec) ≤ 2
@@ -221,28 +225,45 @@ device_short device few =
     let a = Line.Device (imei_at device) (codec_at device) 64 Oldest 10000 100 15 10 true in
     let b = Line.Setting (imei_at device) ignition_setting in
     let c = Line.Setting (imei_at device) voltage_setting in
+    let two_64 : length (decimal 64) ≤ 2 = few_digits 2 64 (lit< tt) (lit≤ tt) (lit< tt) in
+    let five_10000 : length (decimal 10000) ≤ 5 = few_digits 5 10000 (lit< tt) (lit≤ tt) (lit< tt) in
+    let three_100 : length (decimal 100) ≤ 3 = few_digits 3 100 (lit< tt) (lit≤ tt) (lit< tt) in
+    let two_15 : length (decimal 15) ≤ 2 = few_digits 2 15 (lit< tt) (lit≤ tt) (lit< tt) in
+    let two_10 : length (decimal 10) ≤ 2 = few_digits 2 10 (lit< tt) (lit≤ tt) (lit< tt) in
+    let three_239 : length (decimal 239) ≤ 3 = few_digits 3 239 (lit< tt) (lit≤ tt) (lit< tt) in
+    let one_1 : length (decimal 1) ≤ 1 = few_digits 1 1 (lit< tt) (lit≤ tt) (lit< tt) in
+    let one_0 : length (decimal 0) ≤ 1 = few_digits 1 0 (lit< tt) (lit≤ tt) (lit< tt) in
+    let two_66 : length (decimal 66) ≤ 2 = few_digits 2 66 (lit< tt) (lit≤ tt) (lit< tt) in
+    let one_2 : length (decimal 2) ≤ 1 = few_digits 1 2 (lit< tt) (lit≤ tt) (lit< tt) in
+    let five_11000 : length (decimal 11000) ≤ 5 = few_digits 5 11000 (lit< tt) (lit≤ tt) (lit< tt) in
+    let five_15000 : length (decimal 15000) ≤ 5 = few_digits 5 15000 (lit< tt) (lit≤ tt) (lit< tt) in
+    let bytes_b : total (words_of b) ≡ 3 + ((length (imei_text (imei_at device)) + 1) + ((length (decimal 239) + 1) + ((length (decimal 1) + 1) + (7 + ((length (decimal 0) + 1) + ((length (decimal 0) + 1)
+    + ((length (decimal 1) + 1) + 0))))))) = refl in
+    let bytes_c : total (words_of c) ≡ 3 + ((length (imei_text (imei_at device)) + 1) + ((length (decimal 66) + 1) + ((length (decimal 2) + 1) + (11 + ((length (decimal 11000) + 1) + ((length (decimal 15000) + 1)
+    + ((length (decimal 2) + 1) + 0))))))) = refl in
     let one = short_line a 100 (
       imei,
       (
         tt,
         ((lit≤ tt, lit≤ tt, lit< tt), (tt, ((lit≤ tt, lit≤ tt, lit< tt), ((lit≤ tt, lit≤ tt, lit< tt), ((lit≤ tt, lit≤ tt, lit< tt), ((lit≤ tt, lit≤ tt, lit< tt), (tt, tt))))))),
       ),
-    ) (omega (arith, size, codec_short (codec_at device))) in
+    ) (omega (arith, size, codec_short (codec_at device), two_64, five_10000, three_100, two_15, two_10)) in
     let two = short_line b 75 (
       imei,
       ((lit≤ tt, lit≤ tt, lit< tt), ((lit≤ tt, lit≤ tt, lit< tt), (tt, ((lit≤ tt, lit≤ tt, lit< tt), ((lit≤ tt, lit≤ tt, lit< tt), ((lit≤ tt, lit≤ tt, lit< tt), tt)))))),
-    ) (omega (arith, size)) in
+    ) (omega (arith, size, bytes_b, three_239, one_1, one_0)) in
     let three = short_line c 75 (
       imei,
       ((lit≤ tt, lit≤ tt, lit< tt), ((lit≤ tt, lit≤ tt, lit< tt), (tt, ((lit≤ tt, lit≤ tt, lit< tt), ((lit≤ tt, lit≤ tt, lit< tt), ((lit≤ tt, lit≤ tt, lit< tt), tt)))))),
-    ) (omega (arith, size)) in
+    ) (omega (arith, size, bytes_c, two_66, one_2, five_11000, five_15000)) in
     short_append (a ∷ []) (b ∷ c ∷ []) 100 150 one (short_append (b ∷ []) (c ∷ []) 75 75 two three)
 
 drain_short : (device : ℕ) → device ≤ 64 → IsShort (drain_lines device) 250
 drain_short device few =
     let drain = Line.Drain (imei_at device) 512 in
     let imei : imei_at device < 10 ^ 15 = omega arith in
-    let one = short_line drain 30 (imei, ((lit≤ tt, lit≤ tt, lit< tt), tt)) (omega (arith, imei_length (imei_at device))) in
+    let digits : length (decimal 512) ≤ 3 = few_digits 3 512 (lit< tt) (lit≤ tt) (lit< tt) in
+    let one = short_line drain 30 (imei, ((lit≤ tt, lit≤ tt, lit< tt), tt)) (omega (arith, imei_length (imei_at device), digits)) in
     short_less _ 60 250 (omega arith) (short_append (drain ∷ []) (drain ∷ []) 30 30 one one)
 
 devices_short : (lines : ℕ → List ScriptLine) (devices : ℕ) → devices ≤ 64 → ((device : ℕ) → device ≤ 64 → IsShort (lines device) 250) → IsShort (of_devices lines devices) (250 * devices)
@@ -266,5 +287,5 @@ made_short seed devices fixes some few most =
     let middle = turns_short devices 0 (started devices) turns few (omega (arith, count)) (on_start devices) (turns_range devices fixes (seeded seed) some) in
     let last = devices_short drain_lines devices few drain_short in
     let all = short_append (of_devices device_lines devices) (turn_lines (started devices) turns ++ of_devices drain_lines devices) (250 * devices) (144 * length turns + 250 * devices) first
-        (short_append (turn_lines (started devices) turns) (of_devices drain_lines devices) (144 * length turns) (250 * devices) middle last) in
+    (short_append (turn_lines (started devices) turns) (of_devices drain_lines devices) (144 * length turns) (250 * devices) middle last) in
     (all.writable, omega (arith, all.bytes, count))

@@ -1,26 +1,23 @@
 -- No line of a made script has a fault by the lines before it.
-use Rattle.std.proofs.Common.{◌≡◌, ◌==◌, ◌+◌, ◌-◌, ◌*◌, ◌^◌, ◌<◌, ◌≤◌, ◌&&◌, ◌||◌, ℕ, zero, suc, Bool, true, false, nat_le, nat_lt, not, cond, List, [], ◌∷◌, ◌++◌, filter, length, length-append, option_map, Option, Some, None, refl, sym, ap, subst, ◌∙◌, append_assoc, arith, if◌then◌else◌}
-use Rattle.std.specs.Prelude.{count_by, is_some}
-use Rattle.std.specs.List.{AllByRecursion, fold}
+use Rattle.std.proofs.Common.{◌≡◌, ◌==◌, ◌+◌, ◌^◌, ◌<◌, ◌≤◌, ◌&&◌, ℕ, zero, suc, Bool, true, false, nat_le, nat_lt, not, cond, List, [], ◌∷◌, ◌++◌, filter, length, length-append, option_map, Option, Some, None, refl, sym, ap, subst, ◌∙◌, append_assoc, arith, if◌then◌else◌}
+use Rattle.std.specs.Prelude.{is_some}
 use Rattle.std.proofs.lemmas.Bool.Decides.{nat_tests}
-use Rattle.std.proofs.lemmas.Bool.{eqb-true}
 use Rattle.std.proofs.lemmas.List.{append-nil}
 use Rattle.std.proofs.lemmas.List.Sums.{fold-append, sum_by-append}
-use Rattle.acquisition.specs.Checking.{setting_fault}
 use Rattle.avl_values.specs.declared.codec.Codec.{Codec}
 use Rattle.avl_values.specs.declared.codec.Codec.TheVariants.{C8, C8E, C16}
 use Rattle.avl_values.specs.declared.order.Order.TheVariants.{Oldest}
 use Rattle.io_operands.specs.declared.setting.IoSetting.{IoSetting}
 use Rattle.trial_model.specs.Connections.{ConnectionHistory, connections_after, connections_of, if_covered, server_of, opened, at_number, closed, with_more}
-use Rattle.trial_model.specs.Script.{opening_of}
+use Rattle.trial_model.specs.Script.{Opening, opening_of}
 use Rattle.trial_model.specs.declared.script.ScriptLine.{ScriptLine}
 use Rattle.trial_model.specs.declared.script.ScriptLine.TheVariants as Line
 use Rattle.trial_model.specs.declared.script.Who.TheVariants as Who
 use Rattle.journey_script.specs.declared.fault.ScriptFault.{ScriptFault}
-use Rattle.journey_script.specs.declared.fault.ScriptFault.TheVariants.{NoConnection, TooManyDevices, TooManyOpen, TwiceDevice, ValueCount, ValueTooWide}
+use Rattle.journey_script.specs.declared.fault.ScriptFault.TheVariants.{TooManyOpen, ValueCount, ValueTooWide}
 use Rattle.journey_script.specs.Later.{Enrolled, ◌then◌, connection_count, connection_fault, device_count, device_fault, enrolled_after, enrolled_in, is_device_line, later_fault, of_device, open_count, setting_line_fault, unless_enrolled, values_fault, when, with_closed, with_setting}
 use Rattle.journey_script.specs.Standing.{open_from}
-use Rattle.journey_script.proofs.ConnectionLemmas.{connections_push, count_push, length-at_number, length-covered, open_append, open_closed, open_covered, open_length, open_more}
+use Rattle.journey_script.proofs.ConnectionLemmas.{connections_push, count_push, length-at_number, length-covered, made_by, open_append, open_closed, open_covered, open_length, open_more}
 use Rattle.journey_script.proofs.ScriptLaws.{AreSound}
 use Rattle.made_script.specs.declared.turn.Event.{Event}
 use Rattle.made_script.specs.declared.turn.Event.TheVariants.{CutRound, DeviceFuse, Nothing, Power, ServerFuse, WholeRound}
@@ -86,18 +83,21 @@ quiet_push : (rounds : ℕ) (lines : List ScriptLine) (line : ScriptLine) → Is
     → IsQuiet rounds (lines ++ line ∷ [])
 quiet_push rounds lines line known none same =
     let connections = connections_push lines line ∙ same in
-    let no : cond (is_some (opening_of line)) 1 0 ≡ 0 = ap (λ o. cond (is_some o) 1 0) none in
+    let no : made_by (opening_of line) ≡ 0 = ap made_by none in
     record {
       count = omega (arith, known.count, count_push (λ (l : ScriptLine). is_some (opening_of l)) lines line, no);
       made = ap (λ (cs : List ConnectionHistory). length cs) connections ∙ known.made;
       none_open = ap (λ (cs : List ConnectionHistory). open_from 1 cs) connections ∙ known.none_open;
     }
 
+abbrev one_if : Bool → ℕ
+one_if b = cond b 1 0
+
 -- What a line leaves that makes a connection.
 record IsAdded (rounds : ℕ) (lines : List ScriptLine) (covered half : Bool) : Type 0 where
   count : connection_count lines ≡ rounds + 1
   made : length (connections_of lines) ≡ rounds + 1
-  open : open_from 1 (connections_of lines) ≡ (if covered then [] else if half then (rounds + 1) ∷ [] else [])
+  left_open : open_from 1 (connections_of lines) ≡ (if covered then [] else if half then (rounds + 1) ∷ [] else [])
 
 added : (rounds : ℕ) (lines : List ScriptLine) (line : ScriptLine) (c : ConnectionHistory) → IsQuiet rounds lines → is_some (opening_of line) ≡ true
     → connections_after (server_of lines) line ≡ if_covered (server_of lines).fuse (connections_of lines ++ c ∷ []) → IsAdded rounds (lines ++ line ∷ []) (is_some (server_of lines).fuse) c.half_open
@@ -105,12 +105,12 @@ added rounds lines line c known some is =
     let fuse = (server_of lines).fuse in
     let all = connections_of lines ++ c ∷ [] in
     let connections = connections_push lines line ∙ is in
-    let one : cond (is_some (opening_of line)) 1 0 ≡ 1 = ap (λ (b : Bool). cond b 1 0) some in
+    let one : one_if (is_some (opening_of line)) ≡ 1 = ap one_if some in
     let appended = open_append 1 (rounds + 1) (connections_of lines) c (omega (arith, known.made)) in
     record {
       count = omega (arith, known.count, count_push (λ (l : ScriptLine). is_some (opening_of l)) lines line, one);
       made = ap (λ (cs : List ConnectionHistory). length cs) connections ∙ omega (arith, length-covered fuse all, length-append (connections_of lines) (c ∷ []), known.made);
-      open = ap (λ (cs : List ConnectionHistory). open_from 1 cs) connections ∙ open_covered fuse 1 all
+      left_open = ap (λ (cs : List ConnectionHistory). open_from 1 cs) connections ∙ open_covered fuse 1 all
           ∙ ap (λ (xs : List ℕ). if is_some fuse then [] else xs) (appended ∙ ap (λ (xs : List ℕ). if c.half_open then xs ++ (rounds + 1) ∷ [] else xs) known.none_open);
     }
 
@@ -203,12 +203,12 @@ drain_takes : (devices rounds device piece : ℕ) (lines : List ScriptLine) → 
 unfolding later_fault
 drain_takes devices rounds device piece lines enrols quiet first last =
     let line = Line.Drain (imei_at device) piece in
-    let opening = record { imei = imei_at device; drains = true; up = None; down = None } in
-    let a = added rounds lines line (opened lines line opening) quiet refl refl in
+    let opening : Opening = record { imei = imei_at device; drains = true; up = None; down = None } in
+    let a = added rounds lines line (opened (server_of lines).lines line opening) quiet refl refl in
     record {
       sound = (unless_ok (enrolled_in lines (imei_at device)) (λ d. None) (enrols.settings device first last) (λ d is. refl), tt);
       enrols = enrols_push devices lines line enrols (λ imei e. closes (imei_at device) imei e);
-      quiet = record { count = a.count; made = a.made; none_open = a.open ∙ none_left (is_some (server_of lines).fuse) [] refl };
+      quiet = record { count = a.count; made = a.made; none_open = a.left_open ∙ none_left (is_some (server_of lines).fuse) [] refl };
     }
 
 open_few : (lines : List ScriptLine) → length (open_from 1 (connections_of lines)) ≤ 1 → when (nat_lt 64 (open_count lines)) TooManyOpen ≡ None
@@ -219,9 +219,9 @@ round_takes : (devices rounds device piece : ℕ) (lines : List ScriptLine) → 
 unfolding later_fault
 round_takes devices rounds device piece lines enrols quiet first last =
     let line = Line.Round (imei_at device) piece None None in
-    let opening = record { imei = imei_at device; drains = false; up = None; down = None } in
-    let a = added rounds lines line (opened lines line opening) quiet refl refl in
-    let none = a.open ∙ none_left (is_some (server_of lines).fuse) [] refl in
+    let opening : Opening = record { imei = imei_at device; drains = false; up = None; down = None } in
+    let a = added rounds lines line (opened (server_of lines).lines line opening) quiet refl refl in
+    let none = a.left_open ∙ none_left (is_some (server_of lines).fuse) [] refl in
     let few = open_few (lines ++ line ∷ []) (omega (arith, ap (λ (xs : List ℕ). length xs) none)) in
     record {
       sound = (unless_ok (enrolled_in lines (imei_at device)) _ (enrols.settings device first last) (λ d is. few), tt);
@@ -240,14 +240,14 @@ cut_takes : (devices rounds device piece up : ℕ) (lines : List ScriptLine) →
 unfolding later_fault
 cut_takes devices rounds device piece up lines enrols quiet first last =
     let line = Line.Round (imei_at device) piece (Some up) None in
-    let opening = record { imei = imei_at device; drains = false; up = Some up; down = None } in
-    let a = added rounds lines line (opened lines line opening) quiet refl refl in
+    let opening : Opening = record { imei = imei_at device; drains = false; up = Some up; down = None } in
+    let a = added rounds lines line (opened (server_of lines).lines line opening) quiet refl refl in
     let left = one_left (rounds + 1) (is_some (server_of lines).fuse) in
     let half : IsHalf (rounds + 1) (lines ++ line ∷ []) = record {
       count = a.count;
       made = a.made;
-      few = omega (arith, ap (λ (xs : List ℕ). length xs) a.open, left.0);
-      only = ap (λ (xs : List ℕ). filter (λ j. not (j == rounds + 1)) xs) a.open ∙ left.1;
+      few = omega (arith, ap (λ (xs : List ℕ). length xs) a.left_open, left.0);
+      only = ap (λ (xs : List ℕ). filter (λ j. not (j == rounds + 1)) xs) a.left_open ∙ left.1;
     } in
     record {
       sound = unless_ok (enrolled_in lines (imei_at device)) _ (enrols.settings device first last) (λ d is. open_few (lines ++ line ∷ []) half.few);
@@ -267,9 +267,9 @@ late_takes devices rounds lines enrols half some =
     let fuse = (server_of lines).fuse in
     let changed = at_number (with_more None) rounds (connections_of lines) in
     let connections = connections_push lines line in
-    let open : open_from 1 (connections_of (lines ++ line ∷ [])) ≡ (if is_some fuse then [] else open_from 1 (connections_of lines)) =
-        ap (λ (cs : List ConnectionHistory). open_from 1 cs) connections ∙ open_covered fuse 1 changed
-        ∙ ap (λ (xs : List ℕ). if is_some fuse then [] else xs) (open_more None 1 rounds (connections_of lines)) in
+    let still : open_from 1 (connections_of (lines ++ line ∷ [])) ≡ (if is_some fuse then [] else open_from 1 (connections_of lines)) =
+    ap (λ (cs : List ConnectionHistory). open_from 1 cs) connections ∙ open_covered fuse 1 changed
+    ∙ ap (λ (xs : List ℕ). if is_some fuse then [] else xs) (open_more None 1 rounds (connections_of lines)) in
     let left = fewer rounds (is_some fuse) (open_from 1 (connections_of lines)) half.few half.only in
     record {
       sound = ap (λ (n : ℕ). connection_fault n rounds) half.count ∙ there rounds some;
@@ -277,8 +277,8 @@ late_takes devices rounds lines enrols half some =
       half = record {
         count = omega (arith, half.count, count_push (λ (l : ScriptLine). is_some (opening_of l)) lines line);
         made = ap (λ (cs : List ConnectionHistory). length cs) connections ∙ omega (arith, length-covered fuse changed, length-at_number (with_more None) rounds (connections_of lines), half.made);
-        few = omega (arith, ap (λ (xs : List ℕ). length xs) open, left.0);
-        only = ap (λ (xs : List ℕ). filter (λ j. not (j == rounds)) xs) open ∙ left.1;
+        few = omega (arith, ap (λ (xs : List ℕ). length xs) still, left.0);
+        only = ap (λ (xs : List ℕ). filter (λ j. not (j == rounds)) xs) still ∙ left.1;
       };
     }
 
@@ -385,7 +385,7 @@ settings_ok C8E = refl
 settings_ok C16 = refl
 
 -- what the three lines of a device leave of one
-of_three : (b : Bool) (codec : Codec) (e : Option Enrolled) → Option Enrolled
+abbrev of_three : (b : Bool) (codec : Codec) (e : Option Enrolled) → Option Enrolled
 of_three b codec e = let first = if b then Some (enrolled_with codec []) else e in
     let second = if b then option_map (with_setting ignition_setting) first else first in
     if b then option_map (with_setting voltage_setting) second else second
@@ -424,11 +424,11 @@ three_sound count lines known few =
     let device = Line.Device who codec 64 Oldest 10000 100 15 10 true in
     let lines1 = lines ++ device ∷ [] in
     let first : enrolled_in lines1 who ≡ Some (enrolled_with codec []) =
-        enrolled_push lines device who ∙ ap (λ (b : Bool). if b then Some (enrolled_with codec []) else enrolled_in lines who) (own_device who) in
+    enrolled_push lines device who ∙ ap (λ (b : Bool). if b then Some (enrolled_with codec []) else enrolled_in lines who) (own_device who) in
     let setting = Line.Setting who ignition_setting in
     let second : enrolled_in (lines1 ++ setting ∷ []) who ≡ Some (enrolled_with codec (ignition_setting ∷ [])) =
-        enrolled_push lines1 setting who ∙ ap (of_device who (with_setting ignition_setting) who) first
-        ∙ ap (λ (b : Bool). if b then Some (enrolled_with codec (ignition_setting ∷ [])) else Some (enrolled_with codec [])) (own_device who) in (
+    enrolled_push lines1 setting who ∙ ap (of_device who (with_setting ignition_setting) who) first
+    ∙ ap (λ (b : Bool). if b then Some (enrolled_with codec (ignition_setting ∷ [])) else Some (enrolled_with codec [])) (own_device who) in (
       no_device (device_count lines) (enrolled_in lines who) (known.absent (suc count) (omega arith)) (omega (arith, known.devices)),
       (ap (λ e. setting_line_fault e ignition_setting) first ∙ setting_ok codec, (ap (λ e. setting_line_fault e voltage_setting) second ∙ settings_ok codec, tt)),
     )

@@ -1,5 +1,5 @@
 -- What is drawn for a turn is in its ranges.
-use Rattle.std.proofs.Common.{◌≡◌, ◌==◌, ◌+◌, ◌%◌, ◌<◌, ◌≤◌, ℕ, zero, suc, Bool, true, false, nat_le, List, [], ◌∷◌, refl, lit<, arith, if◌then◌else◌}
+use Rattle.std.proofs.Common.{◌==◌, ◌+◌, ◌<◌, ◌≤◌, ℕ, zero, suc, Bool, true, false, nat_le, List, lit<, arith, if◌then◌else◌}
 use Rattle.std.specs.List.{AllByRecursion}
 use Rattle.std.proofs.Math.Nat.{mod-lt}
 use Rattle.rand_pcg.specs.Lcg.{Lcg}
@@ -36,6 +36,9 @@ at_most_one : (b : Bool) → (if b then 0 else 1) ≤ 1
 at_most_one true = omega arith
 at_most_one false = omega arith
 
+voltage_below : (g : Lcg) → 10000 + (draw 6000 g).0 < 16000
+voltage_below g = omega (arith, draw_below 6000 g (lit< tt))
+
 pub turn_range : (devices : ℕ) (g : Lcg) → 1 ≤ devices → IsTurn devices (drawn_turn devices g).0
 unfolding drawn_turn
 turn_range devices g some = record {
@@ -46,7 +49,7 @@ turn_range devices g some = record {
   east = draw_below 1000000 _ (lit< tt);
   north = draw_below 1000000 _ (lit< tt);
   ignition = at_most_one _;
-  voltage = let p = draw_below 6000 _ (lit< tt) in omega (arith, p);
+  voltage = voltage_below _;
   event = drawn_event_range _;
 }
 

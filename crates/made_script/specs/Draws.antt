@@ -46,7 +46,7 @@ drawn_fuse fuse most generator =
 unfoldable pub event_of : ℕ → Lcg → Drawn Event
 event_of number generator =
     if nat_le number 3 then drawn_whole generator else if number == 4 then drawn_cut generator else if number == 5 then (Power, generator) else
-        if number == 6 then drawn_fuse DeviceFuse 8 generator else if number == 7 then drawn_fuse ServerFuse 4 generator else (Nothing, generator)
+    if number == 6 then drawn_fuse DeviceFuse 8 generator else if number == 7 then drawn_fuse ServerFuse 4 generator else (Nothing, generator)
 
 unfoldable pub drawn_event : Lcg → Drawn Event
 drawn_event generator =
@@ -63,8 +63,7 @@ drawn_turn devices generator =
     let north = draw 1000000 east.1 in
     let ignition = draw 8 north.1 in
     let voltage = draw 6000 ignition.1 in
-    let event = drawn_event voltage.1 in
-    (
+    let event = drawn_event voltage.1 in (
       record {
         device = 1 + device.0;
         speed = speed.0;

@@ -114,7 +114,7 @@ turn_lines stand (turn ∷ turns) = lines_at (after_turn stand turn) turn ++ tur
 -- ---- the script
 unfoldable pub made_lines : ℕ → ℕ → ℕ → List ScriptLine
 made_lines seed devices fixes =
-    of_devices device_lines devices ++ turn_lines (started devices) (drawn_turns devices fixes (seeded seed)) ++ of_devices drain_lines devices
+    of_devices device_lines devices ++ (turn_lines (started devices) (drawn_turns devices fixes (seeded seed)) ++ of_devices drain_lines devices)
 
 abbrev pub made : ℕ → ℕ → ℕ → Script
 made seed devices fixes = enumerate_from 1 (made_lines seed devices fixes)

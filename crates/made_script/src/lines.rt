@@ -65,9 +65,10 @@ pub fn push_device(alloc: Global, draft: &mut ScriptDraft, device: u32) -> Resul
         known: true,
     };
     draft.push(alloc, &line)?;
-    for setting in [IGNITION, VOLTAGE] {
-        draft.push(alloc, &ScriptLine::Setting { imei, setting })?;
-    }
+    let setting = IGNITION;
+    draft.push(alloc, &ScriptLine::Setting { imei, setting })?;
+    let setting = VOLTAGE;
+    draft.push(alloc, &ScriptLine::Setting { imei, setting })?;
     Ok(())
 }
 
