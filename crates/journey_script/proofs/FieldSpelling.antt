@@ -41,7 +41,7 @@ mapped f None y h = absurd (cc)
 mapped f (Some x) y h = (x, refl, cc)
 
 -- ---- numbers
-own : IsNumeralModel (λ ds. list_all is_digit ds ≡ true) (fold with_digit 0)
+pub own : IsNumeralModel (λ ds. list_all is_digit ds ≡ true) (fold with_digit 0)
 own = numerals_by_fold _ (search rules) (λ n ds. fold with_digit n ds) (search rules)
 
 some_digits : (t : List ℕ) → (length t == 0) ≡ false → 0 < length t
@@ -104,7 +104,7 @@ signed_spelled limit (x ∷ xs) z small h = by (x == 45) refl h
         ap signed_decimal (sym p.2) ∙ number_spelled 0 limit (x ∷ xs) p.0 (omega arith) p.1
 
 -- ---- IMEIs
-digit_at : (k : ℕ) (t : List ℕ) → list_all is_digit t ≡ true → k < length t → (48 ≤ get_or t k 0) × (get_or t k 0 ≤ 57)
+pub digit_at : (k : ℕ) (t : List ℕ) → list_all is_digit t ≡ true → k < length t → (48 ≤ get_or t k 0) × (get_or t k 0 ≤ 57)
 digit_at k [] h below = absurd (omega arith)
 digit_at zero (x ∷ xs) h below = let p = both (is_digit x) _ h in let q = both (nat_le 48 x) _ p.0 in (grind (arith, nat_tests), grind (arith, nat_tests))
 digit_at (suc k) (x ∷ xs) h below = digit_at k xs (both (is_digit x) _ h).1 (omega arith)

@@ -1,7 +1,11 @@
 pub mod ConnectionLemmas
+pub mod DraftLemmas
 pub mod FieldLemmas
+pub mod FieldReading
 pub mod FieldSpelling
+pub mod LineReading
 pub mod LineSpelling
+pub mod MadeLaws
 pub mod ReadingLemmas
 pub mod ScriptLaws
 pub mod SettingLaws

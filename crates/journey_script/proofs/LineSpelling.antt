@@ -134,7 +134,7 @@ AreNarrow [] = Unit {0}
 AreNarrow (kind ∷ kinds) = IsNarrow kind × AreNarrow kinds
 
 -- what is made of these parts
-abbrev apply : {A : Type 0} → (kinds : List FieldKind) → Makes A kinds → Parts kinds → A
+abbrev pub apply : {A : Type 0} → (kinds : List FieldKind) → Makes A kinds → Parts kinds → A
 apply [] make parts = make
 apply (kind ∷ kinds) make parts = apply kinds (make parts.0) parts.1
 

@@ -25,7 +25,7 @@ use Rattle.journey_script.proofs.StandingLemmas.{some_number}
 use Rattle.journey_script.proofs.WrittenLemmas.{is_short}
 
 -- ---- lines without a fault by those before them
-abbrev AreSound : List ScriptLine → List ScriptLine → Type 0
+abbrev pub AreSound : List ScriptLine → List ScriptLine → Type 0
 AreSound before [] = Unit {0}
 AreSound before (line ∷ lines) = (later_fault before line ≡ None) × AreSound (before ++ line ∷ []) lines
 

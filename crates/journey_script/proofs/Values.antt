@@ -29,7 +29,7 @@ last_from : (n : ℕ) (digits : List ℕ) (d : ℕ) → fold with_digit n (digit
 last_from n [] d = refl
 last_from n (x ∷ xs) d = last_from (with_digit n x) xs d
 
-places_value : (p n : ℕ) → n < 10 ^ p → value_of (decimal_places p n) ≡ n
+pub places_value : (p n : ℕ) → n < 10 ^ p → value_of (decimal_places p n) ≡ n
 unfolding decimal_places
 places_value zero n h = omega arith
 places_value (suc p) n h =

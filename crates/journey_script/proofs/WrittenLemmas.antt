@@ -4,7 +4,7 @@ use Rattle.std.specs.List.{All, AllByRecursion, fold, join_with_byte, slice_spli
 use Rattle.std.specs.Str.Lines.{lines, lines_of_parts, strip_carriage_return}
 use Rattle.std.proofs.lemmas.Bool.Decides.{nat_tests}
 use Rattle.std.proofs.lemmas.List.{append-nil, length-take}
-use Rattle.std.proofs.lemmas.List.Splits.{join_with_byte-slice_split, length-slice_split, slice_split_at, slice_split_none}
+use Rattle.std.proofs.lemmas.List.Splits.{join_with_byte-slice_split, length-slice_split}
 use Rattle.text_lines.specs.Lines.{content_from, content_lines, is_skipped}
 use Rattle.trial_model.specs.Script.{Script, lines_of}
 use Rattle.trial_model.specs.declared.script.ScriptLine.{ScriptLine}
@@ -17,10 +17,11 @@ use Rattle.journey_script.specs.Writing.{spelled, written, written_lines}
 use Rattle.journey_script.specs.WrittenText.{after_line}
 use Rattle.journey_script.proofs.ReadingLemmas.{whole_text}
 use Rattle.journey_script.proofs.FieldSpelling.{both}
+use Rattle.journey_script.proofs.LineReading.{AllLack, cut_joined}
 use Rattle.journey_script.proofs.LineSpelling.{AllPrintable, one_spelling, printable, read_words}
 
 -- numbered lines
-abbrev Texts : Type 0
+abbrev pub Texts : Type 0
 Texts = List (ℕ × List ℕ)
 
 -- a script's lines as texts
@@ -28,7 +29,7 @@ abbrev pub texts_of : Script → Texts
 texts_of script = map (λ l. (l.0, spelled l.1)) script
 
 -- each says something
-abbrev AllSay : Texts → Type 0
+abbrev pub AllSay : Texts → Type 0
 AllSay ts = AllByRecursion (λ t. (line : ScriptLine) × (line_of t.1 ≡ Ok line)) ts
 
 -- What was read of the lines of a text, after these.
@@ -66,21 +67,21 @@ read_texts (t ∷ ts) before script h =
     }
 
 -- ---- lines with an empty one for each that is skipped
-abbrev lines_with : ℕ → Texts → List (List ℕ)
+abbrev pub lines_with : ℕ → Texts → List (List ℕ)
 lines_with n [] = []
 lines_with n (t ∷ ts) = replicate (t.0 - n) [] ++ t.1 ∷ lines_with (t.0 + 1) ts
 
-written_as : (n : ℕ) (script : Script) → written_lines n script ≡ lines_with n (texts_of script)
+pub written_as : (n : ℕ) (script : Script) → written_lines n script ≡ lines_with n (texts_of script)
 written_as n [] = refl
 written_as n (l ∷ ls) = ap (λ (xs : List (List ℕ)). replicate (l.0 - n) [] ++ spelled l.1 ∷ xs) (written_as (l.0 + 1) ls)
 
 -- numbers that rise from this one on
-abbrev AreRising : ℕ → Texts → Type 0
+abbrev pub AreRising : ℕ → Texts → Type 0
 AreRising n [] = Unit {0}
 AreRising n (t ∷ ts) = (n ≤ t.0) × AreRising (t.0 + 1) ts
 
 -- no line is skipped
-abbrev AllKept : Texts → Type 0
+abbrev pub AllKept : Texts → Type 0
 AllKept ts = AllByRecursion (λ t. is_skipped t.1 ≡ false) ts
 
 rising_later : (n : ℕ) (ts : Texts) → AreRising (n + 1) ts → AreRising n ts
@@ -110,7 +111,7 @@ content_none : (n : ℕ) → content_from n [] ≡ []
 unfolding content_from
 content_none n = refl
 
-content_with : (n : ℕ) (ts : Texts) → AreRising n ts → AllKept ts → content_from n (lines_with n ts) ≡ ts
+pub content_with : (n : ℕ) (ts : Texts) → AreRising n ts → AllKept ts → content_from n (lines_with n ts) ≡ ts
 content_with n [] rising kept = content_none n
 content_with n (t ∷ ts) rising kept =
     let at : n + (t.0 - n) ≡ t.0 = omega (arith, rising.0) in
@@ -118,25 +119,28 @@ content_with n (t ∷ ts) rising kept =
     ∙ content_kept t.0 t.1 (lines_with (t.0 + 1) ts) kept.0 ∙ ap (λ (xs : Texts). t ∷ xs) (content_with (t.0 + 1) ts rising.1 kept.1)
 
 -- ---- lines that are joined and cut again
-record IsClean (x : List ℕ) : Type 0 where
-  no_end : All (λ b. (b == 10) ≡ false) x
-  no_return : strip_carriage_return x ≡ x
+pub record IsClean (x : List ℕ) : Type 0 where
+  pub no_end : All (λ b. (b == 10) ≡ false) x
+  pub no_return : strip_carriage_return x ≡ x
 
 -- each is clean, and the last has a byte
-abbrev AreClean : List (List ℕ) → Type 0
+abbrev pub AreClean : List (List ℕ) → Type 0
 AreClean [] = Unit {0}
 AreClean (x ∷ []) = IsClean x × ((length x == 0) ≡ false)
 AreClean (x ∷ y ∷ ys) = IsClean x × AreClean (y ∷ ys)
 
+lack_ends : (x : List ℕ) (xs : List (List ℕ)) → AreClean (x ∷ xs) → AllLack 10 (x ∷ xs)
+lack_ends x [] clean = (clean.0.no_end, tt)
+lack_ends x (y ∷ ys) clean = (clean.0.no_end, lack_ends y ys clean.1)
+
 cut_again : (x : List ℕ) (xs : List (List ℕ)) → AreClean (x ∷ xs) → slice_split (λ b. b == 10) (join_with_byte 10 (x ∷ xs)) ≡ x ∷ xs
-cut_again x [] clean = slice_split_none (λ b. b == 10) x clean.0.no_end
-cut_again x (y ∷ ys) clean = slice_split_at (λ b. b == 10) x 10 (join_with_byte 10 (y ∷ ys)) clean.0.no_end refl ∙ ap (λ (zs : List (List ℕ)). x ∷ zs) (cut_again y ys clean.1)
+cut_again x xs clean = cut_joined 10 x xs (lack_ends x xs clean)
 
 same_lines : (x : List ℕ) (xs : List (List ℕ)) → AreClean (x ∷ xs) → lines_of_parts (x ∷ xs) ≡ x ∷ xs
 same_lines x [] clean = ap (λ (b : Bool). if b then [] else x ∷ []) clean.1
 same_lines x (y ∷ ys) clean = ap (λ (z : List ℕ). z ∷ lines_of_parts (y ∷ ys)) clean.0.no_return ∙ ap (λ (zs : List (List ℕ)). x ∷ zs) (same_lines y ys clean.1)
 
-lines_again : (xs : List (List ℕ)) → AreClean xs → lines (join_with_byte 10 xs) ≡ xs
+pub lines_again : (xs : List (List ℕ)) → AreClean xs → lines (join_with_byte 10 xs) ≡ xs
 lines_again [] clean = refl
 lines_again (x ∷ xs) clean = ap lines_of_parts (cut_again x xs clean) ∙ same_lines x xs clean
 
@@ -191,17 +195,17 @@ some_kept : (x : List ℕ) → is_skipped x ≡ false → (length x == 0) ≡ fa
 some_kept [] h = absurd (cc)
 some_kept (b ∷ bs) h = grind (arith, nat_tests)
 
-clean_with : (n : ℕ) (ts : Texts) → AllSay ts → AllKept ts → AreClean (lines_with n ts)
+pub clean_with : (n : ℕ) (ts : Texts) → AllSay ts → AllKept ts → AreClean (lines_with n ts)
 clean_with n [] say kept = tt
 clean_with n (t ∷ ts) say kept =
     clean_front (t.0 - n) t.1 (lines_with (t.0 + 1) ts) (clean_cons t.1 (lines_with (t.0 + 1) ts) (print_clean t.1 (text_print t.1 say.0.0 say.0.1)) (some_kept t.1 kept.0) (clean_with (t.0 + 1) ts say.1 kept.1))
 
 -- ---- lengths, with one byte more for each line
-abbrev total : List (List ℕ) → ℕ
+abbrev pub total : List (List ℕ) → ℕ
 total [] = 0
 total (x ∷ xs) = (length x + 1) + total xs
 
-total_append : (xs ys : List (List ℕ)) → total (xs ++ ys) ≡ total xs + total ys
+pub total_append : (xs ys : List (List ℕ)) → total (xs ++ ys) ≡ total xs + total ys
 total_append [] ys = omega arith
 total_append (x ∷ xs) ys = omega (arith, total_append xs ys)
 
@@ -209,19 +213,19 @@ total_empty : (k : ℕ) → total (replicate k []) ≡ k
 total_empty zero = refl
 total_empty (suc k) = omega (arith, total_empty k)
 
-join_total : (x : List ℕ) (xs : List (List ℕ)) → length (join_with_byte 10 (x ∷ xs)) + 1 ≡ total (x ∷ xs)
-join_total x [] = omega arith
-join_total x (y ∷ ys) = omega (arith, join_total y ys, length-append x (10 ∷ join_with_byte 10 (y ∷ ys)))
+pub join_total : (c : ℕ) (x : List ℕ) (xs : List (List ℕ)) → length (join_with_byte c (x ∷ xs)) + 1 ≡ total (x ∷ xs)
+join_total c x [] = omega arith
+join_total c x (y ∷ ys) = omega (arith, join_total c y ys, length-append x (c ∷ join_with_byte c (y ∷ ys)))
 
-join_most : (xs : List (List ℕ)) (most : ℕ) → total xs ≤ most + 1 → length (join_with_byte 10 xs) ≤ most
+pub join_most : (xs : List (List ℕ)) (most : ℕ) → total xs ≤ most + 1 → length (join_with_byte 10 xs) ≤ most
 join_most [] most h = omega arith
-join_most (x ∷ xs) most h = omega (arith, join_total x xs)
+join_most (x ∷ xs) most h = omega (arith, join_total 10 x xs)
 
 parts_total : (text : List ℕ) (parts : List (List ℕ)) → slice_split (λ b. b == 10) text ≡ parts → total parts ≡ length text + 1
 parts_total text [] is = absurd (omega (arith, length-slice_split (λ b. b == 10) text, ap (λ (ps : List (List ℕ)). length ps) is))
 parts_total text (p ∷ ps) is =
     let whole : join_with_byte 10 (p ∷ ps) ≡ text = ap (join_with_byte 10) (sym is) ∙ join_with_byte-slice_split 10 text in
-    sym (join_total p ps) ∙ ap (λ (t : List ℕ). length t + 1) whole
+    sym (join_total 10 p ps) ∙ ap (λ (t : List ℕ). length t + 1) whole
 
 stripped : (x : List ℕ) → length (strip_carriage_return x) ≤ length x
 stripped x = by (slice_index x (length x - 1) == 13)

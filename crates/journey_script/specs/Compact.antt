@@ -1,7 +1,7 @@
 -- The lines that a script keeps, as lines of a script.
 use Rattle.std.specs.Prelude.{◌≡◌, ℕ, ◌≤◌, List, map, vec_len, Result, Ok, Err}
-use Rattle.std.specs.List.{AllByRecursion}
-use Rattle.trial_model.specs.Script.{Script}
+use Rattle.std.specs.List.{AllByRecursion, enumerate_from}
+use Rattle.trial_model.specs.Script.{Script, lines_of}
 use Rattle.trial_model.specs.declared.script.ScriptLine.{ScriptLine}
 use Rattle.trial_model.specs.declared.script.ScriptLine.TheVariants as Line
 use Rattle.journey_script.specs.declared.compact.CompactFix.{CompactFix}
@@ -65,3 +65,8 @@ AllFew lines = AllByRecursion (λ l. HasFewValues l.line) lines
 pub record IsKept (lines : List NumberedLine) : Type 0 where
   pub few : AllFew lines
   pub is_script : IsScript (script_in lines)
+
+-- What a draft keeps: lines that are numbered from 1, without a gap.
+pub record IsNumbered (lines : List NumberedLine) : Type 0 where
+  pub few : AllFew lines
+  pub in_order : script_in lines ≡ enumerate_from 1 (lines_of (script_in lines))

@@ -6,6 +6,7 @@ mod choice;
 mod compact;
 mod connections;
 mod devices;
+mod draft;
 mod drive;
 mod fault;
 mod field;
@@ -21,6 +22,7 @@ mod standing;
 mod word;
 mod writer;
 
+pub use draft::ScriptDraft;
 pub use drive::drive_fault;
 pub use fault::{ReadFault, ScriptFault};
 pub use reader::read_script;

@@ -20,7 +20,7 @@ use std::sync::Wait;
 use std::thread::Threads;
 
 /// A little of everything.
-const SAMPLES: [(&str, [u64; 3]); 14] = [
+const SAMPLES: [(&str, [u64; 3]); 15] = [
     ("codecs", [112, 1, 0]),
     ("fields", [112, 1, 0]),
     ("frames", [2, 1460, 0]),
@@ -33,6 +33,7 @@ const SAMPLES: [(&str, [u64; 3]); 14] = [
     ("overwrite", [4, 0, 0]),
     ("medium", [4, 0, 0]),
     ("scripts", [0, 100_000, 1]),
+    ("made", [1, 2, 100]),
     ("talks", [100, 2, 1]),
     ("sessions", [5, 1460, 1]),
 ];
@@ -57,6 +58,7 @@ fn work<R: Threads + Wait + Sync>(
         "desk" => desk_work::admit(rt, alloc, first, second),
         "sessions" => session_work::serve(alloc, first, second, third > 0),
         "scripts" => script_work::read_scripts(alloc, first, second, third),
+        "made" => script_work::make_scripts(alloc, first, second, third),
         "talks" => tracker_work::talk(alloc, first, second, third > 0),
         "medium" => ring_work::write_medium(alloc, first),
         _ => ring_work::work(alloc, what, first),

@@ -1,5 +1,6 @@
 use avl_values::NoMemory;
-use journey_script::read_script;
+use journey_script::{read_script, write_script};
+use made_script::make_script;
 use std::alloc::Global;
 
 /// Puts as many such lines last as leave the text within these bytes.
@@ -83,4 +84,12 @@ pub fn read_scripts(alloc: Global, kind: u64, bytes: u64, rounds: u64) -> Option
         lines = read_script(alloc, text.as_bytes()).ok()?.len();
     }
     Some((lines as u64, text.len() as u64))
+}
+
+/// Makes the script of a seed, for 1 to 64 devices and 1 to 100,000 turns; its lines, and the bytes of its text.
+pub fn make_scripts(alloc: Global, seed: u64, devices: u64, fixes: u64) -> Option<(u64, u64)> {
+    let devices = devices.clamp(1, 64) as u8;
+    let script = make_script(alloc, seed, devices, fixes.clamp(1, 100_000) as u32).ok()?;
+    let text = write_script(alloc, &script).ok()?;
+    Some((script.len() as u64, text.len() as u64))
 }

@@ -1,0 +1,5 @@
+mod Bytes
+mod Loops
+mod MadeScript
+mod Sound
+mod Turns
