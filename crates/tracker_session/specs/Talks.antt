@@ -1,6 +1,6 @@
 -- What a round did over a link that tells its bytes, where no command was heard: said of the batches that were sent, by their data
 -- bodies, and of the counts that came back.
-use Rattle.std.specs.Prelude.{◌≡◌, ◌≢◌, ◌⊎◌, ℕ, ◌+◌, ◌<◌, ◌≤◌, ◌^◌, true, List, [], ◌∷◌, ◌++◌, length, take, drop, Result, Ok, Err}
+use Rattle.std.specs.Prelude.{◌≡◌, ◌≢◌, ◌⊎◌, ℕ, ◌+◌, ◌<◌, ◌≤◌, ◌^◌, true, false, List, [], ◌∷◌, ◌++◌, length, take, drop, Result, Ok, Err}
 use Rattle.std.specs.List.{All, Contains, flat_map}
 use Rattle.avl_values.specs.Record.{Record}
 use Rattle.avl_values.specs.declared.errors.MediumFault.{MediumFault}
