@@ -12,3 +12,4 @@ pub mod Rounds
 pub mod RingRounds
 pub mod Sending
 pub mod Talks
+pub mod WholeRounds

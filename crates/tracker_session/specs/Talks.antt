@@ -91,3 +91,24 @@ pub record RoundTalks (imei most : ℕ) (result : Result RoundEnd MediumFault) (
   pub written_is : written ≡ stream_up imei bodies
   pub ends : IsTalkEnd result taken bodies heard back
   pub ring : RoundsRing result heard (records_by (take heard bodies)) old new
+
+-- The bytes taken are the first that an end writes which answers rightly: `01` and the own counts of the batches, or `00`.
+pub data AreRightAnswers (taken : List ℕ) (bodies : List (List ℕ)) : Type 0 where
+  counts : (more : List ℕ) → taken ++ more ≡ 1 ∷ counts_by bodies → AreRightAnswers taken bodies
+  refuses : (more : List ℕ) → taken ++ more ≡ 0 ∷ [] → AreRightAnswers taken bodies
+
+-- How a round ends over such answers: none is wrong, and each byte that was taken was looked at.
+abbrev pub IsRightEnd : Result RoundEnd MediumFault → List ℕ → List (List ℕ) → ℕ → Type 0
+IsRightEnd (Ok (end.Done n)) taken bodies heard = (taken ≡ 1 ∷ counts_by bodies) × (heard ≡ length bodies) × (1 ≤ length bodies) × (n ≡ length (records_by bodies))
+IsRightEnd (Ok end.Empty) taken bodies heard = ⊥
+IsRightEnd (Ok end.Refused) taken bodies heard = (taken ≡ 0 ∷ []) × (bodies ≡ []) × (heard ≡ 0)
+IsRightEnd (Ok end.Broken) taken bodies heard = ((taken ≡ []) × (bodies ≡ []) × (heard ≡ 0))
+    ⊎ ((rest : List ℕ) × (taken ≡ 1 ∷ (counts_by (take heard bodies) ++ rest)) × (length rest < 4) × (length bodies ≡ heard + 1))
+IsRightEnd (Ok (end.WrongAnswer got)) taken bodies heard = ⊥
+IsRightEnd (Ok end.TooManyCommands) taken bodies heard = ⊥
+IsRightEnd (Err failed) taken bodies heard = (taken ≡ 1 ∷ counts_by bodies) × (heard ≡ length bodies) × (1 ≤ length bodies)
+
+-- Where the other end answers rightly, no round ends with a wrong answer.
+abbrev pub RightAnswersEndRight : Type 0
+RightAnswersEndRight = (result : Result RoundEnd MediumFault) (taken : List ℕ) (bodies : List (List ℕ)) (heard : ℕ) (back : List ℕ) → AreSentBodies bodies → AreRightAnswers taken bodies → IsTalkEnd result taken bodies heard back
+    → IsRightEnd result taken bodies heard

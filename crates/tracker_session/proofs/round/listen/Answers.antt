@@ -8,7 +8,7 @@ use Rattle.tracker_session.specs.Responses.{ShellMeaning}
 use Rattle.tracker_session.specs.RoundStates.{round_of}
 use Rattle.tracker_session.specs.Turns.{Takes, Ending, IsReady, Lessens}
 use Rattle.tracker_session.proofs.Going.{goes-on}
-use Rattle.tracker_session.proofs.Listening.{all-taken, goes-as, goes-none, goes-read, heard-more}
+use Rattle.tracker_session.proofs.Listening.{all-taken, goes-as, goes-none, goes-read, heard-more, piece-bytes}
 use Rattle.tracker_session.proofs.Stopping.{ends-with}
 use Rattle.tracker_session.proofs.round.listen.Goals as goal
 
@@ -62,11 +62,14 @@ returns-in-Some-clause-ends g c =
     let fits = inv.2 in
     let took : n ≤ length (take (count - at) (drop at buffer)) = c.take_one-n.ensures.took.1 in
     let within : at + n ≤ count = omega (arith, length-take (count - at) (drop at buffer)) in
-    let P : Ending → Type 0 = λ e. Takes m e c.items.tracker c.take_one-n.new.tracker (take (count - at) (drop at buffer)) n c.items.shell c.take_one-n.new.shell c.items.progress c.take_one-n.new.progress y z in (
+    let P : Ending → Type 0 = λ e. Takes m e c.items.tracker c.take_one-n.new.tracker (take (count - at) (drop at buffer)) n c.items.shell c.take_one-n.new.shell c.items.progress c.take_one-n.new.progress y z in
+    let ends = ends-with m r (inv.0 ++ take at buffer) (inv.0 ++ take count buffer) (take (count - at) (drop at buffer)) (drop (at + n) (take count buffer)) n c.args.tracker.now.ring c.items.tracker c.items.progress c.items.shell x y inv.1
+        (all-taken inv.0 buffer at n count within) (Rose (g.L.Link.state c.args.link.now).faults (g.L.Link.state c.take_one-n.new.link).faults) c.in-Some.end c.take_one-n.new.tracker c.take_one-n.new.progress c.take_one-n.new.shell z (subst P c.in-Some.is c.take_one-n.ensures.takes)
+        (λ broken. let faults = inv.9 in let rose = c.take_one-n.ensures.broken.cause (c.in-Some.is ∙ ap (λ (e : Result RoundEnd MediumFault). Some e) broken) in omega arith) in (
       inv.0 ++ take count buffer,
-      ends-with m r (inv.0 ++ take at buffer) (inv.0 ++ take count buffer) (take (count - at) (drop at buffer)) (drop (at + n) (take count buffer)) n c.args.tracker.now.ring c.items.tracker c.items.progress c.items.shell x y inv.1
-          (all-taken inv.0 buffer at n count within) (Rose (g.L.Link.state c.args.link.now).faults (g.L.Link.state c.take_one-n.new.link).faults) c.in-Some.end c.take_one-n.new.tracker c.take_one-n.new.progress c.take_one-n.new.shell z (subst P c.in-Some.is c.take_one-n.ensures.takes)
-          (λ broken. let faults = inv.9 in let rose = c.take_one-n.ensures.broken.cause (c.in-Some.is ∙ ap (λ (e : Result RoundEnd MediumFault). Some e) broken) in omega arith),
+      ends.0,
+      piece-bytes inv.0 buffer at count fits inv.1.bytes_heard c.take_one-n.ensures.bytes,
+      ends.1,
     )
 
 pub items-preserved : goal.items-preserved
@@ -96,7 +99,7 @@ items-preserved g c =
     let same = less.records in (
       inv.0,
       goes-as m r ((inv.0 ++ take at buffer) ++ take n (take (count - at) (drop at buffer))) (inv.0 ++ take (at + n) buffer) (inv.0 ++ take count buffer) c.args.tracker.now.ring c.take_one-n.new.tracker c.take_one-n.new.progress c.take_one-n.new.shell x z (heard-more inv.0 buffer at n count within)
-          (goes-on m r (inv.0 ++ take at buffer) (inv.0 ++ take count buffer) (take (count - at) (drop at buffer)) n c.args.tracker.now.ring c.items.tracker c.take_one-n.new.tracker c.items.progress c.take_one-n.new.progress c.items.shell c.take_one-n.new.shell x y z inv.1
+          (goes-on m r (inv.0 ++ take at buffer) (inv.0 ++ take count buffer) (take (count - at) (drop at buffer)) n c.args.tracker.now.ring c.items.tracker c.take_one-n.new.tracker c.items.progress c.take_one-n.new.progress c.items.shell c.take_one-n.new.shell x y z inv.1 c.take_one-n.ensures.bytes
           (subst P c.in-None.is c.take_one-n.ensures.takes) (subst Q c.in-None.is c.take_one-n.ensures.ready)),
       within,
       inv.3,

@@ -1,0 +1,2 @@
+-- The laws of a round for the crates above.
+pub use Rattle.tracker_session.proofs.RightAnswers.{right-answers as right_answers_end_right}
