@@ -18,4 +18,5 @@ pub mod Sents
 pub mod Draining
 pub mod Telling
 pub mod RightAnswers
+pub mod NoCommands
 pub mod Exports

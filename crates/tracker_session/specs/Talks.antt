@@ -1,7 +1,7 @@
 -- What a round did over a link that tells its bytes, where no command was heard: said of the batches that were sent, by their data
 -- bodies, and of the counts that came back.
 use Rattle.std.specs.Prelude.{◌≡◌, ◌≢◌, ◌⊎◌, ℕ, ◌+◌, ◌<◌, ◌≤◌, ◌^◌, true, false, List, [], ◌∷◌, ◌++◌, length, take, drop, Result, Ok, Err}
-use Rattle.std.specs.List.{All, Contains, flat_map}
+use Rattle.std.specs.List.{All, AllByRecursion, Contains, flat_map}
 use Rattle.avl_values.specs.Record.{Record}
 use Rattle.avl_values.specs.declared.errors.MediumFault.{MediumFault}
 use Rattle.layout.specs.Bytes.{AreBytes}
@@ -112,3 +112,7 @@ IsRightEnd (Err failed) taken bodies heard = (taken ≡ 1 ∷ counts_by bodies) 
 abbrev pub RightAnswersEndRight : Type 0
 RightAnswersEndRight = (result : Result RoundEnd MediumFault) (taken : List ℕ) (bodies : List (List ℕ)) (heard : ℕ) (back : List ℕ) → AreSentBodies bodies → AreRightAnswers taken bodies → IsTalkEnd result taken bodies heard back
     → IsRightEnd result taken bodies heard
+
+-- An end that writes one byte and then counts, none of them 0, writes no command, wherever its bytes are cut off.
+abbrev pub CountsHoldNoCommand : Type 0
+CountsHoldNoCommand = (b : ℕ) (ns taken more : List ℕ) → b < 256 → AllByRecursion (λ n. (0 < n) × (n < 2 ^ 32)) ns → taken ++ more ≡ b ∷ flat_map count_bytes ns → orders_of (down_reading false taken).items ≡ []

@@ -311,8 +311,8 @@ impl<M: Medium> Tracker<M> {
     }
 
     /// One connection with at most `most` batches: it logs in, sends batches one after the other, each after the count of the one
-    /// before, and answers commands. What follows from an item is done before the next one is looked at. Whatever it answers, no talk
-    /// goes on.
+    /// before, and answers commands. What follows from an item is done before the next one is looked at, and what came in one piece
+    /// with the item at which it ends isn't looked at. Whatever it answers, no talk goes on.
     pub fn round<L: Link, S: Shell>(
         &mut self,
         link: &mut L,
