@@ -61,6 +61,7 @@ batch-of codec (r ∷ rs) one each =
   where
     first : (r : Record) (rs : List Record) → Contains (r ∷ rs) r
     first r rs = Contains-append_left (r ∷ []) rs r (0, lit< tt, refl)
+
     later : (r : Record) (rs : List Record) (x : Record) → Contains rs x → Contains (r ∷ rs) x
     later r rs x has = Contains-append_right (r ∷ []) rs x has
 
@@ -91,13 +92,18 @@ bodies-sent [] s = tt
 bodies-sent (r ∷ rs) s =
     let packet = is-packet r rs s in
     let records = map bytes_in (r ∷ rs) in
-    let head : PacketHead = record { codec = r.codec; count = length records } in
-    (record { head = head; frame = record {
-      is = refl;
-      of_body = record { records = records; packet = packet; count = refl };
-      fits = omega (arith, packed-length r.codec (r ∷ rs), s.batch.fits);
-      are_bytes = packet-bytes r.codec records (body_of (r ∷ rs)) packet;
-    } }, tt)
+    let head : PacketHead = record { codec = r.codec; count = length records } in (
+      record {
+        head = head;
+        frame = record {
+          is = refl;
+          of_body = record { records = records; packet = packet; count = refl };
+          fits = omega (arith, packed-length r.codec (r ∷ rs), s.batch.fits);
+          are_bytes = packet-bytes r.codec records (body_of (r ∷ rs)) packet;
+        };
+      },
+      tt,
+    )
 
 body-records : (r : Record) (rs : List Record) → IsSoundBatch (r ∷ rs) → records_of (body_of (r ∷ rs)) ≡ r ∷ rs
 body-records r rs s =

@@ -1,6 +1,6 @@
 -- Records, data bodies and logins are bytes.
 use Rattle.std.proofs.Common.{◌≡◌, ℕ, zero, suc, ◌+◌, ◌<◌, ◌/◌, ◌%◌, List, [], ◌∷◌, ◌++◌, length, map, sym, subst, arith}
-use Rattle.std.specs.Int.{to_be_bytes, w16, w32}
+use Rattle.std.specs.Int.{bytes_high_first, to_be_bytes, w16, w32}
 use Rattle.std.specs.List.{AllByRecursion, flat_map}
 use Rattle.avl_values.specs.Codec.{id_of}
 use Rattle.avl_values.specs.Imei.{decimal_places, imei_text}
@@ -62,9 +62,9 @@ packet-bytes codec records bytes p =
 -- a frame of bytes
 pub frame-bytes : (body : List ℕ) → AreBytes body → AreBytes (frame_of body)
 frame-bytes body p =
-    let zero_byte : 0 < 256 = omega arith in
-    (zero_byte, (zero_byte, (zero_byte, (zero_byte, bytes-append (to_be_bytes w32 (length body)) (body ++ 0 ∷ 0 ∷ to_be_bytes w16 (crc_of body)) (spell_bytes 4 (length body))
-        (bytes-append body (0 ∷ 0 ∷ to_be_bytes w16 (crc_of body)) p (zero_byte, (zero_byte, spell_bytes 2 (crc_of body))))))))
+    let low = bytes-append (bytes_high_first 2 0) (to_be_bytes w16 (crc_of body)) (spell_bytes 2 0) (spell_bytes 2 (crc_of body)) in
+    bytes-append (bytes_high_first 4 0) (to_be_bytes w32 (length body) ++ (body ++ 0 ∷ 0 ∷ to_be_bytes w16 (crc_of body))) (spell_bytes 4 0)
+    (bytes-append (to_be_bytes w32 (length body)) (body ++ 0 ∷ 0 ∷ to_be_bytes w16 (crc_of body)) (spell_bytes 4 (length body)) (bytes-append body (0 ∷ 0 ∷ to_be_bytes w16 (crc_of body)) p low))
 
 places-bytes : (places n : ℕ) → AreBytes (decimal_places places n)
 unfolding decimal_places

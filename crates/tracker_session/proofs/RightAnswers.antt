@@ -118,12 +118,12 @@ module _ (taken : List ℕ) (bodies : List (List ℕ)) (heard : ℕ) (are : AreS
   short-right answers verdict = elim (nat_lt (length rest) 4) as (λ b. nat_lt (length rest) 4 ≡ b → length rest < 4) [
     | true ↦ λ e. ltb-true (length rest) 4 e
     | false ↦ λ e. (let many = ltb-false (length rest) 4 e in
-      let own = (has-own bodies heard are waits).own in
-      let b = begins answers in
-      let none : b.0 ≡ [] = none-more rest b.0 (omega (arith, ap length b.1)) in
-      let all : rest ≡ rest ++ b.0 = sym (append-nil rest) ∙ ap (λ (x : List ℕ). rest ++ x) (sym none) in
-      let both : short ≡ whole (count own) (length (count_bytes own)) = sym verdict ∙ ap (down_verdict true) all ∙ is-whole b.0 b.1 in
-      absurd cc)
+        let own = (has-own bodies heard are waits).own in
+        let b = begins answers in
+        let none : b.0 ≡ [] = none-more rest b.0 (omega (arith, ap length b.1)) in
+        let all : rest ≡ rest ++ b.0 = sym (append-nil rest) ∙ ap (λ (x : List ℕ). rest ++ x) (sym none) in
+        let both : short ≡ whole (count own) (length (count_bytes own)) = sym verdict ∙ ap (down_verdict true) all ∙ is-whole b.0 b.1 in
+        absurd cc)
   ] refl
 
   fault-right : AreRightAnswers taken bodies → (kind : FaultKind) (place : ℕ) → down_verdict true rest ≡ fault kind place → ⊥
@@ -140,7 +140,7 @@ count-right taken bodies heard are waits k back is some fits other answers =
     let h = has-own bodies heard are waits in
     let b = begins taken bodies heard are waits (count_bytes k ++ back) is answers in
     let same = none_begins_down true (count k) (count h.own) (count_bytes k) (count_bytes h.own) (back ++ b.0) [] (record { is = refl; some = some; fits = fits }) h.is
-        (sym (append_assoc (count_bytes k) back b.0) ∙ b.1 ∙ sym (append-nil (count_bytes h.own))) in
+    (sym (append_assoc (count_bytes k) back b.0) ∙ b.1 ∙ sym (append-nil (count_bytes h.own))) in
     other (count-same k h.own same.1 ∙ sym h.records_is)
 
 pub right-answers : RightAnswersEndRight

@@ -147,7 +147,7 @@ module _ {S : Type 0} (m : ShellMeaning S) (r : Round S) (bytes taken piece back
       let part = subst Q said sent.1 in
       let at = orders-on m r d old v w p q s t body g.stands view sent.0 f.4 in
       let st = stops-at (Ok end.Broken) (order body) w.ring t z (take part.0 (writes m r d (order body))) (steps.1 ∙ ap (λ (i : DownValue). whole i (length (v.have ++ take n piece))) f.1)
-          ((sym g.stands.accepted ∙ f.2, omega arith), at.leaves, (part.0, part.1, refl), cause refl) part.2 in
+      ((sym g.stands.accepted ∙ f.2, omega arith), at.leaves, (part.0, part.1, refl), cause refl) part.2 in
       (st.0, inr st.1)
   answer-stops (Ok (end.WrongAnswer got)) u w q t z out hears sent same cause = absurd sent
   answer-stops (Ok end.TooManyCommands) u w q t z out hears sent same cause = absurd sent
@@ -179,8 +179,7 @@ module _ {S : Type 0} (m : ShellMeaning S) (r : Round S) (bytes taken piece back
       let whole_rest : judge (down_rows d.accepted) 0 (v.have ++ (piece_now ++ back)) ≡ fault found.kind found.place = ap (down_verdict d.accepted) (sym (append_assoc v.have piece_now back)) ∙ stays in
       let unfinished : IsNotWhole (judge (down_rows d.accepted) 0 (v.have ++ (piece_now ++ back))) = subst (λ (k : Verdict DownValue). IsNotWhole k) (sym whole_rest) tt in
       let ring : w.ring ≡ v.ring = ap (λ (j : TrackerView). j.ring) still.view ∙ ap (λ (j : TrackerView). j.ring) steps.1 in
-      let all_taken : taken ≡ bytes ++ (piece_now ++ back) = split ∙ append_assoc bytes piece_now back in
-      (
+      let all_taken : taken ≡ bytes ++ (piece_now ++ back) = split ∙ append_assoc bytes piece_now back in (
         d,
         record {
           items = a.items;

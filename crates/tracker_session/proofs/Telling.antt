@@ -178,6 +178,7 @@ module _ {S : Type 0} (m : ShellMeaning S) (r : Round S) (sound : AreSound r.slo
         out-size =
             ap (λ (xs : List (List ℕ)). length (records_by xs)) (back-of sent.counted sent.out (at vs).frames sent.frames ∙ sent.waiting)
             ∙ ap length (bodies-records (recs_in r.slots (at vs).batch) sent.batch) ∙ count-recs r.slots (at vs).batch (given-back r.slots (at vs).closed (at vs).batch (given-at vs))
+
         not-own : 0 < length (at vs).batch → k ≡ length (at vs).batch → (((at vs).batch ≡ []) ⊎ (k ≢ length (at vs).batch)) → ⊥
         not-own some same (inl none) = let size = ap length none in omega arith
         not-own some same (inr differs) = differs same
@@ -193,7 +194,7 @@ module _ {S : Type 0} (m : ShellMeaning S) (r : Round S) (sound : AreSound r.slo
         let all : s.counted ++ s.out ≡ s.counted = ap (λ (xs : List (List ℕ)). s.counted ++ xs) out ∙ append-nil s.counted in
         let count_all : length (s.counted ++ s.out) ≡ d.frames = ap length all ∙ s.frames in
         let is : taken ≡ (1 ∷ counts_by (s.counted ++ s.out)) ++ back = taken-is last.value refl
-            ∙ ap (λ (x : List ℕ). x ++ back) (heard-counts d _ _ s (next-accepted m r (at vs) last.value fits) ∙ ap (λ (xs : List (List ℕ)). 1 ∷ counts_by xs) (front-of s.counted s.out d.frames s.frames ∙ sym all)) in
+        ∙ ap (λ (x : List ℕ). x ++ back) (heard-counts d _ _ s (next-accepted m r (at vs) last.value fits) ∙ ap (λ (xs : List (List ℕ)). 1 ∷ counts_by xs) (front-of s.counted s.out d.frames s.frames ∙ sym all)) in
         let records : length (records_by (s.counted ++ s.out)) ≡ length d.closed = ap (λ (xs : List (List ℕ)). length (records_by xs)) all ∙ ap length s.records ∙ count-recs r.slots d.closed (given-front r.slots d.closed d.batch given).opens in
         let heard_all : HeardAll taken (s.counted ++ s.out) d.frames back = record { is = is; all = sym count_all; some = omega arith } in
         let P : List ℕ → Type 0 = λ w. IsTold r (Ok (end.Done n)) taken w d in
@@ -277,9 +278,9 @@ module _ {S : Type 0} (m : ShellMeaning S) (r : Round S) (sound : AreSound r.slo
       text m r (starts r) (values s.items) ++ s.then_,
       s.wire,
       λ none. (let told_it = stops-told result taken d x y known s none in
-        let P : List ℕ × RoundState S → Type 0 = λ z. IsTold r result taken z.0 z.1 in
-        let written : text m r (starts r) (values s.items) ≡ text m r (starts r) (values s.items) ++ s.then_ = sym (append-nil (text m r (starts r) (values s.items))) ∙ ap (λ (b : List ℕ). text m r (starts r) (values s.items) ++ b) (sym told_it.1) in
-        subst P (λ i. (written i, sym s.state i)) told_it.0),
+          let P : List ℕ × RoundState S → Type 0 = λ z. IsTold r result taken z.0 z.1 in
+          let written : text m r (starts r) (values s.items) ≡ text m r (starts r) (values s.items) ++ s.then_ = sym (append-nil (text m r (starts r) (values s.items))) ∙ ap (λ (b : List ℕ). text m r (starts r) (values s.items) ++ b) (sym told_it.1) in
+          subst P (λ i. (written i, sym s.state i)) told_it.0),
     )
 
     by-rests : (result : Result RoundEnd MediumFault) (verdict : Verdict DownValue) (taken : List ℕ) (d : RoundState S) (x y : Option Traffic) → AreBytes taken → Rests m r verdict taken d old new t x y
@@ -290,8 +291,8 @@ module _ {S : Type 0} (m : ShellMeaning S) (r : Round S) (sound : AreSound r.slo
       text m r (starts r) (values s.items),
       s.wire,
       λ none. (let P : RoundState S → Type 0 = λ z. IsTold r result taken (text m r (starts r) (values s.items)) z in
-        let plain = plain-items s.items (ap (λ (k : Reading DownValue). orders_of k.items) (sym s.reading.is) ∙ none) in
-        subst P (sym s.state) (rests-told result verdict taken s.items s.rest known s.reading s.fits plain (subst (λ (k : RoundState S). IsWaiting k) s.state s.waits) (λ bodies heard. first bodies heard s.rest) (λ bodies heard. later bodies heard s.rest))),
+          let plain = plain-items s.items (ap (λ (k : Reading DownValue). orders_of k.items) (sym s.reading.is) ∙ none) in
+          subst P (sym s.state) (rests-told result verdict taken s.items s.rest known s.reading s.fits plain (subst (λ (k : RoundState S). IsWaiting k) s.state s.waits) (λ bodies heard. first bodies heard s.rest) (λ bodies heard. later bodies heard s.rest))),
     )
 
     ends-told : (result : Result RoundEnd MediumFault) (taken : List ℕ) (d : RoundState S) (x y : Option Traffic) → AreBytes taken → Ends m r rose result taken d old new t x y → Tells result taken d x y
@@ -318,7 +319,7 @@ module _ {S : Type 0} (m : ShellMeaning S) (r : Round S) (sound : AreSound r.slo
           let q = ends-told result taken d (Some (with_more [] (login_of r.imei) before)) (Some after_) known (subst P login ends) in
           let moved : after_ ≡ with_more taken q.0 (with_more [] (login_of r.imei) before) = some-same after_ _ q.1 in
           let both : after_ ≡ with_more taken (login_of r.imei ++ q.0) before = moved
-              ∙ ap (λ (x : List ℕ × List ℕ). let k : Traffic = record { taken = x.0; written = x.1 } in k) (λ i. (ap (λ (b : List ℕ). b ++ taken) (append-nil before.taken) i, append_assoc before.written (login_of r.imei) q.0 i)) in
+          ∙ ap (λ (x : List ℕ × List ℕ). let k : Traffic = record { taken = x.0; written = x.1 } in k) (λ i. (ap (λ (b : List ℕ). b ++ taken) (append-nil before.taken) i, append_assoc before.written (login_of r.imei) q.0 i)) in
           let same_taken : quiet.taken ≡ taken = append_cancel_left before.taken quiet.taken taken (ap (λ (k : Traffic). k.taken) (sym quiet.moves) ∙ ap (λ (k : Traffic). k.taken) both) in
           let it = q.2 (ap (λ (b : List ℕ). orders_of (down_reading false b).items) (sym same_taken) ∙ quiet.none) in
           let H : List (Option Held) → Type 0 = λ slots. AreDecided (held_of slots) it.bodies in
@@ -344,6 +345,7 @@ module _ {S : Type 0} (m : ShellMeaning S) (r : Round S) (sound : AreSound r.slo
           or_this : Traffic → Option Traffic → Traffic
           or_this a None = a
           or_this a (Some b) = b
+
           some-same : (a b : Traffic) → Some a ≡ Some b → a ≡ b
           some-same a b e = ap (λ (o : Option Traffic). or_this a o) e
 
