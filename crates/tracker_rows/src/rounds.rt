@@ -204,7 +204,7 @@ fn each_call_of_the_flash_fails_in_turn(rt: HostRuntime) -> Result<(), Fail> {
     Ok(())
 }
 
-// A round of at most so many batches over a link that gives its bytes in one piece; how it ended, and how many more bytes the link gave.
+// A round of at most `most` batches over a link that gives its bytes in one piece; how it ended, and how many more bytes the link gave.
 fn in_one_piece(alloc: Global, incoming: &[u8], most: u32) -> Option<(Seen, usize)> {
     let mut tracker = with_records(alloc, &[Codec::C8, Codec::C8E])?;
     if tracker.is_down() || most == 0 {

@@ -17,10 +17,10 @@ use Rattle.tracker_session.specs.Rounds.{Advances, written}
 pub down_begins : AreStreamRows (down_rows false) (down_rows true)
 down_begins = record { first_begins = starts_short_down false; later_begins = starts_short_down true }
 
--- bytes behind those that are read to their last
-pub reads-behind : (heard back : List ℕ) (items : List (Item DownValue)) (last : Item DownValue) → down_reading false heard ≡ record { items = items ++ last ∷ []; rest = [] }
+-- bytes after those that are read to their last
+pub reads-after : (heard back : List ℕ) (items : List (Item DownValue)) (last : Item DownValue) → down_reading false heard ≡ record { items = items ++ last ∷ []; rest = [] }
     → down_reading false (heard ++ back) ≡ with_items (items ++ last ∷ []) (reading_of (down_rows true) (down_rows true) (length heard) back)
-reads-behind heard back items last e =
+reads-after heard back items last e =
     let all = items ++ last ∷ [] in
     let first = down_rows false in
     let later = down_rows true in

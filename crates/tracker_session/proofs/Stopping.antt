@@ -33,7 +33,7 @@ use Rattle.tracker_session.specs.declared.heard.Hearing.TheVariants as hearing
 use Rattle.tracker_session.specs.declared.round.Progress.{Progress}
 use Rattle.tracker_session.specs.declared.round_end.RoundEnd.{RoundEnd}
 use Rattle.tracker_session.specs.declared.round_end.RoundEnd.TheVariants as end
-use Rattle.tracker_session.proofs.Advancing.{down_begins, last_item, reads-behind, reads-item}
+use Rattle.tracker_session.proofs.Advancing.{down_begins, last_item, reads-after, reads-item}
 use Rattle.tracker_session.proofs.Going.{Goes, Stands, accepts-on, batch-same, counts-on, frame-same, judged, none-less, orders-on, slots-same, waiting}
 
 some-reached : (left : CallsLeft) (ks : List ℕ) (before slots : List (Option Held)) → MayClose (reached left ks) before slots → MayClose ks before slots
@@ -59,7 +59,7 @@ module _ {S : Type 0} (m : ShellMeaning S) (r : Round S) (bytes taken piece back
           items = g.advances.items;
           last = last;
           reading = reading;
-          behind = ap (down_reading false) split ∙ reads-behind (bytes ++ take n piece) back g.advances.items last reading;
+          reads_on = ap (down_reading false) split ∙ reads-after (bytes ++ take n piece) back g.advances.items last reading;
           fits = g.advances.fits;
           waits = subst (λ (d : RoundState S). IsWaiting d) g.advances.state (waiting m r bytes taken old v p s x y g);
           state = refl;

@@ -223,9 +223,9 @@ module _ {S : Type 0} (m : ShellMeaning S) (r : Round S) (sound : AreSound r.slo
   -- no command is among the items that were heard
   plain-stops : (taken heard back : List ℕ) (items : List (Item DownValue)) (last : Item DownValue) → down_reading false taken ≡ with_items (items ++ last ∷ []) (reading_of (down_rows true) (down_rows true) (length heard) back)
       → orders_of (down_reading false taken).items ≡ [] → ArePlain (values (items ++ last ∷ []))
-  plain-stops taken heard back items last behind none =
+  plain-stops taken heard back items last reads_on none =
       let later = (reading_of (down_rows true) (down_rows true) (length heard) back).items in
-      plain-front (items ++ last ∷ []) later (plain-items ((items ++ last ∷ []) ++ later) (ap (λ (k : Reading DownValue). orders_of k.items) (sym behind) ∙ none))
+      plain-front (items ++ last ∷ []) later (plain-items ((items ++ last ∷ []) ++ later) (ap (λ (k : Reading DownValue). orders_of k.items) (sym reads_on) ∙ none))
 
   module _ (old new : RingView) (t : S) (rose : Type 0) (steady : rose → ⊥) (open_slots : held_of old.slots ≡ [] → ⊥) (some_batch : 0 < r.most) where
     -- done with a batch
@@ -245,28 +245,28 @@ module _ {S : Type 0} (m : ShellMeaning S) (r : Round S) (sound : AreSound r.slo
     stops-told : (result : Result RoundEnd MediumFault) (taken : List ℕ) (d : RoundState S) (x y : Option Traffic) → AreBytes taken → (s : Stops m r rose result taken d old new t x y) → orders_of (down_reading false taken).items ≡ []
         → IsTold r result taken (text m r (starts r) (values s.items)) (stands_at m r result (at (values s.items)) s.last.value) × (s.then_ ≡ [])
     stops-told (Ok (end.Done n)) taken d x y known s none =
-        let p = plain-stops taken s.heard s.back s.items s.last s.behind none in
+        let p = plain-stops taken s.heard s.back s.items s.last s.reads_on none in
         (done-told taken s.heard s.back s.items s.last known s.split s.reading s.fits (plain-front s.items (s.last ∷ []) p) n s.stops.0 (plain-last s.items s.last p) s.stops.2 s.stops.3 (done-some n taken d x y s), s.stops.5)
     stops-told (Ok end.Empty) taken d x y known s none = absurd s.stops
     stops-told (Ok end.Refused) taken d x y known s none =
-        let p = plain-stops taken s.heard s.back s.items s.last s.behind none in
+        let p = plain-stops taken s.heard s.back s.items s.last s.reads_on none in
         (refused-told taken s.heard s.back s.items s.last known s.split s.reading s.fits (plain-front s.items (s.last ∷ []) p) s.stops.0 s.stops.1, s.stops.3)
     stops-told (Ok end.Broken) taken d x y known s none = absurd (steady s.stops.3)
     stops-told (Ok (end.WrongAnswer (got.Login b))) taken d x y known s none =
-        let p = plain-stops taken s.heard s.back s.items s.last s.behind none in
+        let p = plain-stops taken s.heard s.back s.items s.last s.reads_on none in
         let w = s.stops.0 in
         (login-told taken s.heard s.back s.items s.last known s.split s.reading s.fits (plain-front s.items (s.last ∷ []) p) b w.0 w.1 w.2 w.3, s.stops.2)
     stops-told (Ok (end.WrongAnswer (got.Count k))) taken d x y known s none =
-        let p = plain-stops taken s.heard s.back s.items s.last s.behind none in
+        let p = plain-stops taken s.heard s.back s.items s.last s.reads_on none in
         let w = s.stops.0 in
         (count-told taken s.heard s.back s.items s.last known s.split s.reading s.fits (plain-front s.items (s.last ∷ []) p) k w.0 w.1 s.waits w.2, s.stops.2)
     stops-told (Ok (end.WrongAnswer (got.Frame found))) taken d x y known s none = absurd s.stops.0
     stops-told (Ok end.TooManyCommands) taken d x y known s none =
-        let p = plain-stops taken s.heard s.back s.items s.last s.behind none in
+        let p = plain-stops taken s.heard s.back s.items s.last s.reads_on none in
         let P : DownValue → Type 0 = λ v. IsPlain v in
         absurd (subst P s.stops.0.1 (plain-last s.items s.last p))
     stops-told (Err failed) taken d x y known s none =
-        let p = plain-stops taken s.heard s.back s.items s.last s.behind none in
+        let p = plain-stops taken s.heard s.back s.items s.last s.reads_on none in
         (failed-told taken s.heard s.back s.items s.last known s.split s.reading s.fits (plain-front s.items (s.last ∷ []) p) failed s.stops.0 s.stops.1, s.stops.3)
 
     -- what was written, and what it is where no command was heard

@@ -61,7 +61,7 @@ module _ {S : Type 0} (m : ShellMeaning S) (r : Round S) where
   stands_at (Ok end.TooManyCommands) d item = d
   stands_at (Err failed) d item = counts m r d
 
-  -- It ends behind its items, while it waits for another, and what was taken behind them is judged so.
+  -- It ends after its items, while it waits for another, and what was taken after them is judged so.
   pub record Rests (verdict : Verdict DownValue) (taken : List ℕ) (d : RoundState S) (old new : RingView) (t : S) (x y : Option Traffic) : Type 0 where
     pub items : List (Item DownValue)
     pub rest : List ℕ
@@ -86,7 +86,7 @@ module _ {S : Type 0} (m : ShellMeaning S) (r : Round S) (rose : Type 0) where
   StopsAt (Err failed) d item old new t then_ = Fits m r d item × (item ≡ count (length d.batch)) × FailsInside m r d old new t × (then_ ≡ [])
 
   -- It ends at an item for which it waited: the bytes up to it are read as items from which the round goes on, and then it. The bytes
-  -- that were taken with it are read behind it, and nothing follows from them.
+  -- that were taken in the same piece are read after it, and nothing follows from them.
   pub record Stops (end : Result RoundEnd MediumFault) (taken : List ℕ) (d : RoundState S) (old new : RingView) (t : S) (x y : Option Traffic) : Type 0 where
     pub heard : List ℕ
     pub back : List ℕ
@@ -94,7 +94,7 @@ module _ {S : Type 0} (m : ShellMeaning S) (r : Round S) (rose : Type 0) where
     pub items : List (Item DownValue)
     pub last : Item DownValue
     pub reading : down_reading false heard ≡ record { items = items ++ last ∷ []; rest = [] }
-    pub behind : down_reading false taken ≡ with_items (items ++ last ∷ []) (reading_of (down_rows true) (down_rows true) (length heard) back)
+    pub reads_on : down_reading false taken ≡ with_items (items ++ last ∷ []) (reading_of (down_rows true) (down_rows true) (length heard) back)
     pub fits : AllFit m r (starts r) (values items)
     pub waits : IsWaiting (after m r (starts r) (values items))
     pub state : d ≡ stands_at m r end (after m r (starts r) (values items)) last.value
