@@ -1,5 +1,5 @@
 -- Records, data bodies and logins are bytes.
-use Rattle.std.proofs.Common.{◌≡◌, ℕ, zero, suc, ◌+◌, ◌<◌, ◌/◌, ◌%◌, List, [], ◌∷◌, ◌++◌, length, map, sym, subst, arith}
+use Rattle.std.proofs.Common.{◌≡◌, ℕ, zero, suc, ◌+◌, ◌<◌, ◌/◌, ◌%◌, List, [], ◌∷◌, ◌++◌, length, map, refl, sym, subst, arith}
 use Rattle.std.specs.Int.{bytes_high_first, to_be_bytes, w16, w32}
 use Rattle.std.specs.List.{AllByRecursion, flat_map}
 use Rattle.avl_values.specs.Codec.{id_of}
@@ -10,7 +10,6 @@ use Rattle.avl_values.specs.declared.codec.Codec.TheVariants.{C8, C8E, C16}
 use Rattle.avl_values.specs.declared.width.Width.{Width}
 use Rattle.layout.specs.Bytes.{AreBytes}
 use Rattle.layout.proofs.Numbers.{bytes-append, spell_bytes}
-use Rattle.crc_field.specs.Crc.{crc_of}
 use Rattle.record_layout.specs.Packet.{IsPacket, packet_bytes}
 use Rattle.record_layout.specs.SomeRecord.{IsSomeRecord}
 use Rattle.record_layout.specs.Spelling.{AllFit, PartFits, PartValue, PartValues, joined, pair_bytes, part_bytes, part_values, spell, triple_bytes}
@@ -59,12 +58,23 @@ pub packet-bytes : (codec : Codec) (records : List (List ℕ)) (bytes : List ℕ
 packet-bytes codec records bytes p =
     subst AreBytes (sym p.is) (id-byte codec, (p.few, bytes-append (flat_map (λ (r : List ℕ). r) records) (length records ∷ []) (records-bytes codec records p.each) (p.few, tt)))
 
--- a frame of bytes
+-- A frame of bytes, whatever its checksum is.
+
+abbrev framed : List ℕ → ℕ → List ℕ
+framed body crc = bytes_high_first 4 0 ++ (to_be_bytes w32 (length body) ++ (body ++ (bytes_high_first 2 0 ++ to_be_bytes w16 crc)))
+
+framed-bytes : (body : List ℕ) (crc : ℕ) → AreBytes body → AreBytes (framed body crc)
+framed-bytes body crc p =
+    let low = bytes-append (bytes_high_first 2 0) (to_be_bytes w16 crc) (spell_bytes 2 0) (spell_bytes 2 crc) in
+    let after_length = bytes-append body (bytes_high_first 2 0 ++ to_be_bytes w16 crc) p low in
+    bytes-append (bytes_high_first 4 0) (to_be_bytes w32 (length body) ++ (body ++ (bytes_high_first 2 0 ++ to_be_bytes w16 crc))) (spell_bytes 4 0)
+    (bytes-append (to_be_bytes w32 (length body)) (body ++ (bytes_high_first 2 0 ++ to_be_bytes w16 crc)) (spell_bytes 4 (length body)) after_length)
+
+frame-is : (body : List ℕ) → (crc : ℕ) × (frame_of body ≡ framed body crc)
+frame-is body = (_, refl)
+
 pub frame-bytes : (body : List ℕ) → AreBytes body → AreBytes (frame_of body)
-frame-bytes body p =
-    let low = bytes-append (bytes_high_first 2 0) (to_be_bytes w16 (crc_of body)) (spell_bytes 2 0) (spell_bytes 2 (crc_of body)) in
-    bytes-append (bytes_high_first 4 0) (to_be_bytes w32 (length body) ++ (body ++ 0 ∷ 0 ∷ to_be_bytes w16 (crc_of body))) (spell_bytes 4 0)
-    (bytes-append (to_be_bytes w32 (length body)) (body ++ 0 ∷ 0 ∷ to_be_bytes w16 (crc_of body)) (spell_bytes 4 (length body)) (bytes-append body (0 ∷ 0 ∷ to_be_bytes w16 (crc_of body)) p low))
+frame-bytes body p = let f = frame-is body in subst AreBytes (sym f.1) (framed-bytes body f.0 p)
 
 places-bytes : (places n : ℕ) → AreBytes (decimal_places places n)
 unfolding decimal_places

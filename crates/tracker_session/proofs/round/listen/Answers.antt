@@ -1,7 +1,8 @@
 -- What was taken is heard item by item.
-use Rattle.std.proofs.Common.{ap, ◌≤◌, ◌+◌, ◌++◌, ◌∙◌, [], List, ℕ, length, take, drop, IfNone, Some, Result, ◌-◌, append-nil, arith, refl, sym, subst}
+use Rattle.std.proofs.Common.{inl, ap, ◌≤◌, ◌+◌, ◌++◌, ◌∙◌, [], List, ℕ, length, take, drop, IfNone, Some, Result, ◌-◌, append-nil, arith, refl, sym, subst}
 use Rattle.std.proofs.lemmas.List.{length-take}
 use Rattle.avl_values.specs.Causes.{Rose}
+use Rattle.links.specs.Links.{Moves}
 use Rattle.avl_values.specs.declared.errors.MediumFault.{MediumFault}
 use Rattle.tracker_session.specs.declared.round_end.RoundEnd.{RoundEnd}
 use Rattle.tracker_session.specs.Responses.{ShellMeaning}
@@ -9,7 +10,7 @@ use Rattle.tracker_session.specs.RoundStates.{round_of}
 use Rattle.tracker_session.specs.Turns.{Takes, Ending, IsReady, Lessens}
 use Rattle.tracker_session.proofs.Going.{goes-on}
 use Rattle.tracker_session.proofs.Listening.{all-taken, goes-as, goes-none, goes-read, heard-more, piece-bytes}
-use Rattle.tracker_session.proofs.Stopping.{ends-with}
+use Rattle.tracker_session.proofs.Stopping.{ends-read, ends-with}
 use Rattle.tracker_session.proofs.round.listen.Goals as goal
 
 pub reads-init : goal.reads-init
@@ -45,6 +46,31 @@ items-init g c =
       omega arith,
       g.met.L.Link.follows_then c.args.link.now c.reads.link c.read.new.self inv.6 c.read.ensures.follows,
       inv.7,
+    )
+
+pub returns-in-Err-clause-ends : goal.returns-in-Err-clause-ends
+returns-in-Err-clause-ends g c =
+    let m : ShellMeaning g.row.S.Denot = record { says = g.S.Shell.says; obeyed = g.S.Shell.obeyed } in
+    let inv = c.reads.invariant in
+    let r = round_of c.args.tracker.now c.args.progress.now c.args.shell.now in (
+      inv.0,
+      inv.1.state,
+      inv.1.bytes_heard,
+      inl (ends-read m r inv.0 c.args.tracker.now.ring c.reads.tracker c.reads.progress c.reads.shell (g.L.Link.state c.args.link.now).told (g.L.Link.state c.reads.link).told (g.L.Link.state c.read.new.self).told inv.1 c.in-Err.ensures.failed),
+    )
+
+pub returns-then-count-eq0-clause-ends : goal.returns-then-count-eq0-clause-ends
+returns-then-count-eq0-clause-ends g c =
+    let m : ShellMeaning g.row.S.Denot = record { says = g.S.Shell.says; obeyed = g.S.Shell.obeyed } in
+    let inv = c.reads.invariant in
+    let r = round_of c.args.tracker.now c.args.progress.now c.args.shell.now in
+    let y = (g.L.Link.state c.reads.link).told in
+    let z = (g.L.Link.state c.read.new.self).told in
+    let P : ℕ → Type 0 = λ k. Moves (take k c.read.new.into) [] y z in (
+      inv.0,
+      inv.1.state,
+      inv.1.bytes_heard,
+      inl (ends-read m r inv.0 c.args.tracker.now.ring c.reads.tracker c.reads.progress c.reads.shell (g.L.Link.state c.args.link.now).told y z inv.1 (subst P c.if-count-eq0.true c.in-Ok.ensures.took)),
     )
 
 pub returns-in-Some-clause-ends : goal.returns-in-Some-clause-ends
