@@ -1,5 +1,5 @@
 -- The data body of a batch, and the frame of it.
-use Rattle.std.proofs.Common.{◌≡◌, ℕ, suc, ◌+◌, ◌-◌, ◌<◌, ◌≤◌, ◌==◌, if◌then◌else◌, Bool, true, false, List, [], ◌∷◌, ◌++◌, length, map, Option, Some, None, slice_get, slice_index_or, refl, sym, ap, subst, ◌∙◌, append-nil, arith, length-append, lit<}
+use Rattle.std.proofs.Common.{◌≡◌, ℕ, ◌+◌, ◌<◌, ◌==◌, if◌then◌else◌, true, false, List, [], ◌∷◌, ◌++◌, length, map, Option, Some, None, slice_get, slice_index_or, refl, sym, ap, subst, ◌∙◌, append-nil, arith, lit<}
 use Rattle.std.proofs.lemmas.Bool.Decides.{nat_tests}
 use Rattle.std.proofs.lemmas.List.{length-map}
 use Rattle.std.specs.List.{All, AllByRecursion, Contains, cons_option, flat_map}
@@ -20,7 +20,7 @@ use Rattle.frame_layout.specs.Items.{count_bytes, frame_of}
 use Rattle.flash_ring.specs.Entries.{held_of, selected}
 use Rattle.flash_ring.specs.Held.{AreSound, Held, closed_all, rec_at, rec_in}
 use Rattle.flash_ring.specs.Images.{AreOpen, has_slot}
-use Rattle.flash_ring.specs.Records.{IsBatch, bytes_of, recs_in}
+use Rattle.flash_ring.specs.Records.{IsBatch, recs_in}
 use Rattle.flash_ring.proofs.Batches.{held_of-open}
 use Rattle.flash_ring.proofs.Closes.{has-here, has-there}
 use Rattle.flash_ring.proofs.HeldRecords.{selected-open}

@@ -1,5 +1,5 @@
 -- How many batches a round has sent and may still send.
-use Rattle.std.proofs.Common.{◌≡◌, ◌⊎◌, inl, inr, ℕ, ◌+◌, ◌-◌, ◌<◌, ◌≤◌, ◌==◌, if◌then◌else◌, Bool, true, false, List, [], ◌∷◌, ◌++◌, length, Option, Ok, Err, Result, refl, sym, ap, subst, ◌∙◌, arith, length-append}
+use Rattle.std.proofs.Common.{◌≡◌, ◌⊎◌, inl, inr, ℕ, ◌+◌, ◌<◌, ◌≤◌, ◌==◌, if◌then◌else◌, true, false, List, [], ◌∷◌, length, Option, Ok, Err, Result, refl, sym, ap, subst, ◌∙◌, arith, length-append}
 use Rattle.std.proofs.lemmas.Bool.{false≢true}
 use Rattle.std.proofs.lemmas.Bool.Decides.{nat_tests}
 use Rattle.avl_values.specs.declared.errors.MediumFault.{MediumFault}
@@ -13,9 +13,8 @@ use Rattle.flash_ring.specs.Ring.{RingView}
 use Rattle.tracker_session.specs.Responses.{ShellMeaning}
 use Rattle.tracker_session.specs.RingRounds.{IsDrained}
 use Rattle.tracker_session.specs.RoundStates.{AllFit, Fits, Round, RoundState, accepts, after, counts, next, one_less, sends, slots_now, starts}
-use Rattle.tracker_session.specs.Rounds.{Ends, IsRound, Stops, cut, empty, stands_at, talked}
+use Rattle.tracker_session.specs.Rounds.{Ends, IsRound, Stops, cut, empty, talked}
 use Rattle.tracker_session.specs.Turns.{batch_now}
-use Rattle.tracker_session.specs.declared.heard.Got.TheVariants as got
 use Rattle.tracker_session.specs.declared.round_end.RoundEnd.{RoundEnd}
 use Rattle.tracker_session.specs.declared.round_end.RoundEnd.TheVariants as end
 

@@ -1,11 +1,11 @@
 -- No command stands among counts.
-use Rattle.std.proofs.Common.{◌≡◌, ℕ, ◌+◌, ◌<◌, ◌^◌, true, false, List, [], ◌∷◌, ◌++◌, length, drop, refl, sym, ap, subst, ◌∙◌}
+use Rattle.std.proofs.Common.{◌≡◌, ℕ, ◌+◌, ◌<◌, ◌^◌, true, false, List, [], ◌∷◌, ◌++◌, length, refl, sym, ap, subst, ◌∙◌}
 use Rattle.std.proofs.Math.Seq.{drop-append_seam}
 use Rattle.std.proofs.lemmas.Grind.{flat_map-append}
 use Rattle.std.specs.List.{AllByRecursion, flat_map}
-use Rattle.layout.specs.Rows.{Rows, Verdict, whole}
+use Rattle.layout.specs.Rows.{Verdict}
 use Rattle.item_streams.specs.Laws.{AreStreamRows}
-use Rattle.item_streams.specs.Streams.{IsNotWhole, Item, Reading, reading_of, with_front}
+use Rattle.item_streams.specs.Streams.{IsNotWhole, Item, Reading, reading_of}
 use Rattle.item_streams.proofs.StreamLaws.{front_read, nothing_read, prefix}
 use Rattle.frame_layout.specs.DownRows.{down_rows}
 use Rattle.frame_layout.specs.Items.{count_bytes}

@@ -1,16 +1,16 @@
 -- Records, data bodies and logins are bytes.
-use Rattle.std.proofs.Common.{◌≡◌, ℕ, zero, suc, ◌+◌, ◌<◌, ◌/◌, ◌%◌, List, [], ◌∷◌, ◌++◌, length, map, refl, sym, subst, arith}
+use Rattle.std.proofs.Common.{◌≡◌, ℕ, zero, suc, ◌+◌, ◌<◌, ◌/◌, ◌%◌, List, [], ◌∷◌, ◌++◌, length, refl, sym, subst, arith}
 use Rattle.std.specs.Int.{bytes_high_first, to_be_bytes, w16, w32}
 use Rattle.std.specs.List.{AllByRecursion, flat_map}
 use Rattle.avl_values.specs.Codec.{id_of}
-use Rattle.avl_values.specs.Imei.{decimal_places, imei_text}
+use Rattle.avl_values.specs.Imei.{decimal_places}
 use Rattle.avl_values.specs.Width.{limit}
 use Rattle.avl_values.specs.declared.codec.Codec.{Codec}
 use Rattle.avl_values.specs.declared.codec.Codec.TheVariants.{C8, C8E, C16}
 use Rattle.avl_values.specs.declared.width.Width.{Width}
 use Rattle.layout.specs.Bytes.{AreBytes}
 use Rattle.layout.proofs.Numbers.{bytes-append, spell_bytes}
-use Rattle.record_layout.specs.Packet.{IsPacket, packet_bytes}
+use Rattle.record_layout.specs.Packet.{IsPacket}
 use Rattle.record_layout.specs.SomeRecord.{IsSomeRecord}
 use Rattle.record_layout.specs.Spelling.{AllFit, PartFits, PartValue, PartValues, joined, pair_bytes, part_bytes, part_values, spell, triple_bytes}
 use Rattle.record_layout.specs.Table.{parts_of}

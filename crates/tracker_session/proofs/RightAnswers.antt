@@ -1,10 +1,8 @@
 -- A round over right answers.
-use Rattle.std.proofs.Common.{◌≡◌, ◌⊎◌, inl, inr, ℕ, zero, suc, ◌+◌, ◌<◌, ◌≤◌, ◌^◌, nat_lt, Bool, true, false, List, [], ◌∷◌, ◌++◌, length, take, drop, map, Ok, Err, Result, refl, sym, ap, subst, ◌∙◌, append_assoc, append-nil, arith, length-append}
+use Rattle.std.proofs.Common.{◌≡◌, inl, inr, ℕ, zero, suc, ◌<◌, ◌≤◌, ◌^◌, nat_lt, true, false, List, [], ◌∷◌, ◌++◌, length, take, drop, Ok, Err, refl, sym, ap, ◌∙◌, append_assoc, append-nil, arith, length-append}
 use Rattle.std.proofs.lemmas.Bool.{ltb-false, ltb-true}
 use Rattle.std.proofs.lemmas.List.{append_cancel_left, length-drop, length-map, take-append-drop}
-use Rattle.std.specs.List.{flat_map}
 use Rattle.avl_values.specs.Record.{Record}
-use Rattle.avl_values.specs.declared.errors.MediumFault.{MediumFault}
 use Rattle.avl_values.specs.declared.fault.FaultKind.{FaultKind}
 use Rattle.layout.specs.Rows.{Verdict, whole, short, fault}
 use Rattle.record_layout.specs.RecordsOf.{records_of}
@@ -14,9 +12,8 @@ use Rattle.frame_layout.specs.Items.{IsCount, count_bytes}
 use Rattle.frame_layout.specs.Values.{DownValue, answer, count, order}
 use Rattle.frame_layout.proofs.DownLaws.{down_stays, down_whole, none_begins_down}
 use Rattle.tracker_session.specs.Sending.{AreSentBodies, IsSentBody}
-use Rattle.tracker_session.specs.Talks.{AreRightAnswers, HeardAll, IsRightEnd, IsTalkEnd, RightAnswersEndRight, WaitsForAnswer, WaitsForCount, counts, counts_by, records_by, refuses}
+use Rattle.tracker_session.specs.Talks.{AreRightAnswers, HeardAll, IsRightEnd, RightAnswersEndRight, WaitsForCount, counts, counts_by, records_by, refuses}
 use Rattle.tracker_session.specs.declared.heard.Got.TheVariants as got
-use Rattle.tracker_session.specs.declared.round_end.RoundEnd.{RoundEnd}
 use Rattle.tracker_session.specs.declared.round_end.RoundEnd.TheVariants as end
 use Rattle.tracker_session.proofs.Sents.{counts-append}
 

@@ -1,5 +1,5 @@
 -- What was sent and heard so far, in batches.
-use Rattle.std.proofs.Common.{◌≡◌, ℕ, suc, ◌+◌, ◌<◌, Bool, true, false, List, [], ◌∷◌, ◌++◌, length, take, drop, Option, refl, sym, ap, subst, ◌∙◌, append_assoc, append-nil, arith, length-append}
+use Rattle.std.proofs.Common.{◌≡◌, ℕ, ◌+◌, ◌<◌, Bool, true, false, List, [], ◌∷◌, ◌++◌, length, refl, sym, ap, subst, ◌∙◌, append_assoc, append-nil, arith, length-append}
 use Rattle.std.proofs.lemmas.Bool.{false≢true}
 use Rattle.std.specs.List.{AllByRecursion, Contains, flat_map}
 use Rattle.std.proofs.lemmas.Grind.{flat_map-append}
@@ -9,17 +9,16 @@ use Rattle.record_layout.specs.RecordsOf.{records_of}
 use Rattle.frame_layout.specs.Items.{count_bytes, frame_of}
 use Rattle.frame_layout.specs.Values.{DownValue, answer, count, order}
 use Rattle.flash_ring.specs.Entries.{held_of}
-use Rattle.flash_ring.specs.Held.{AreSound, Held, closed_all, rec_at}
-use Rattle.flash_ring.specs.Images.{AreOpen}
+use Rattle.flash_ring.specs.Held.{AreSound, rec_at}
 use Rattle.flash_ring.specs.Records.{recs_in}
 use Rattle.flash_ring.proofs.Batches.{held_of-no_more}
 use Rattle.flash_ring.proofs.Closes.{may-close_all}
 use Rattle.tracker_session.specs.Batches.{frame_in}
 use Rattle.tracker_session.specs.Responses.{ShellMeaning}
-use Rattle.tracker_session.specs.RoundStates.{AllFit, Fits, Round, RoundState, accepts, after, counts, next, next_batch, one_less, sends, slots_now, starts, text, writes}
+use Rattle.tracker_session.specs.RoundStates.{AllFit, Fits, Round, RoundState, accepts, after, counts, next, next_batch, sends, slots_now, starts, text, writes}
 use Rattle.tracker_session.specs.Sending.{AreSentBodies}
 use Rattle.tracker_session.specs.Talks.{AreDecided, counts_by, records_by}
-use Rattle.tracker_session.proofs.Bodies.{IsPicked, IsSoundBatch, bodies-counts, bodies-decided, bodies-one, bodies-records, bodies-sent, bodies_of, decided-append, frame-bodies, picks, recs-closed, recs-some, sent-append, sound-closed}
+use Rattle.tracker_session.proofs.Bodies.{IsSoundBatch, bodies-counts, bodies-decided, bodies-one, bodies-records, bodies-sent, bodies_of, decided-append, frame-bodies, picks, recs-closed, recs-some, sent-append, sound-closed}
 use Rattle.tracker_session.proofs.Releasing.{AreGiven, count-recs, given-after, given-back, given-next, given-starts}
 use Rattle.tracker_session.proofs.Spelled.{ArePlain, IsPlain, spelled}
 

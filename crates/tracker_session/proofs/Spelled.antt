@@ -1,11 +1,11 @@
 -- The bytes of what is read of a stream down.
-use Rattle.std.proofs.Common.{◌≡◌, ℕ, ◌+◌, ◌<◌, Bool, true, false, List, [], ◌∷◌, ◌++◌, length, refl, sym, ap, subst, ◌∙◌, append_assoc, append-nil, arith}
+use Rattle.std.proofs.Common.{◌≡◌, ℕ, ◌<◌, Bool, true, false, List, [], ◌∷◌, ◌++◌, refl, sym, ap, subst, ◌∙◌, append_assoc}
 use Rattle.std.specs.List.{flat_map}
 use Rattle.layout.specs.Bytes.{AreBytes}
-use Rattle.layout.specs.Rows.{Verdict, whole, short, fault, Fills}
+use Rattle.layout.specs.Rows.{Verdict, whole, short, fault}
 use Rattle.layout.proofs.Numbers.{bytes-back, bytes-front}
 use Rattle.avl_values.specs.declared.fault.FaultKind.{FaultKind}
-use Rattle.item_streams.specs.Streams.{AreItems, IsReading, Item, Reading, reading_of, values}
+use Rattle.item_streams.specs.Streams.{AreItems, IsReading, Item, Reading, values}
 use Rattle.item_streams.proofs.StreamLaws.{has_reading}
 use Rattle.frame_layout.specs.DownRows.{down_rows, down_verdict}
 use Rattle.frame_layout.specs.Items.{IsDownItem, count_bytes, frame_of}

@@ -1,6 +1,5 @@
 -- A round over a link that tells its bytes, told by its batches.
 use Rattle.std.proofs.Common.{◌≡◌, ◌⊎◌, inl, inr, ◌≢◌, ℕ, zero, suc, ◌+◌, ◌<◌, ◌≤◌, ◌^◌, Bool, true, false, List, [], ◌∷◌, ◌++◌, length, take, drop, Option, Some, None, Ok, Err, Result, refl, sym, ap, subst, ◌∙◌, append_assoc, append-nil, arith, length-append}
-use Rattle.std.proofs.lemmas.Bool.{false≢true}
 use Rattle.std.proofs.lemmas.List.{append_cancel_left, map-append, take_all}
 use Rattle.std.proofs.lemmas.Grind.{flat_map-append}
 use Rattle.std.proofs.Math.Seq.{take-append_seam, drop-append_seam}
@@ -8,38 +7,34 @@ use Rattle.std.specs.List.{flat_map}
 use Rattle.avl_values.specs.Record.{Record}
 use Rattle.avl_values.specs.declared.errors.MediumFault.{MediumFault}
 use Rattle.layout.specs.Bytes.{AreBytes}
-use Rattle.layout.specs.Rows.{Verdict, whole, short, fault, judge}
-use Rattle.layout.proofs.Numbers.{bytes-append, bytes-back, bytes-front}
+use Rattle.layout.specs.Rows.{Verdict, short, fault}
+use Rattle.layout.proofs.Numbers.{bytes-append, bytes-front}
 use Rattle.item_streams.specs.Readers.{ReadsAs}
-use Rattle.item_streams.specs.Streams.{Item, Reading, next_rows, reading_of, values, with_items}
+use Rattle.item_streams.specs.Streams.{Item, Reading, reading_of, values, with_items}
 use Rattle.links.specs.Links.{Moves, Traffic, with_more}
 use Rattle.frame_layout.specs.DownRows.{down_rows, down_verdict}
 use Rattle.frame_layout.specs.Items.{IsDownItem, count_bytes, frame_of, login_of}
 use Rattle.frame_layout.specs.Readings.{down_reading, orders_of}
-use Rattle.frame_layout.specs.Values.{DownValue, answer, count, order}
-use Rattle.flash_ring.specs.Entries.{held_of, selected}
+use Rattle.frame_layout.specs.Values.{DownValue, answer, count}
+use Rattle.flash_ring.specs.Entries.{held_of}
 use Rattle.flash_ring.specs.Held.{AreSound, Held}
 use Rattle.flash_ring.specs.Records.{recs_in}
-use Rattle.flash_ring.specs.Ring.{IsDurable, RingView}
-use Rattle.flash_ring.proofs.Selections.{selected-empty}
-use Rattle.tracker_session.specs.Hearing.{IsWrong}
+use Rattle.flash_ring.specs.Ring.{RingView}
 use Rattle.tracker_session.specs.Responses.{ShellMeaning}
 use Rattle.tracker_session.specs.RingRounds.{RoundsRing}
-use Rattle.tracker_session.specs.RoundStates.{AllFit, Fits, IsWaiting, Round, RoundState, accepts, after, counts, next, next_batch, starts, text, writes}
-use Rattle.tracker_session.specs.Rounds.{Ends, IsRound, Leaves, Rests, Stops, StopsAt, cut, empty, stands_at, talked}
-use Rattle.tracker_session.specs.Sending.{AreSentBodies, stream_up}
+use Rattle.tracker_session.specs.RoundStates.{AllFit, Fits, IsWaiting, Round, RoundState, after, counts, next, starts, text, writes}
+use Rattle.tracker_session.specs.Rounds.{Ends, IsRound, Rests, Stops, cut, empty, stands_at, talked}
+use Rattle.tracker_session.specs.Sending.{AreSentBodies}
 use Rattle.tracker_session.specs.Talks.{AreDecided, HeardAll, HearsNoCommand, IsTalkEnd, RoundTalks, WaitsForAnswer, WaitsForCount, counts_by, records_by}
-use Rattle.tracker_session.specs.Turns.{batch_now}
 use Rattle.tracker_session.specs.WholeRounds.{TalksWhere}
-use Rattle.tracker_session.specs.declared.heard.Got.{Got}
 use Rattle.tracker_session.specs.declared.heard.Got.TheVariants as got
 use Rattle.tracker_session.specs.declared.round_end.RoundEnd.{RoundEnd}
 use Rattle.tracker_session.specs.declared.round_end.RoundEnd.TheVariants as end
 use Rattle.tracker_session.proofs.Bodies.{bodies-one, bodies-records, bodies_of, frames-bytes, recs-some}
 use Rattle.tracker_session.proofs.Draining.{adds-after, adds-next, adds-starts, one_if}
 use Rattle.tracker_session.proofs.RecordBytes.{login-bytes}
-use Rattle.tracker_session.proofs.Releasing.{AreGiven, count-recs, given-after, given-back, given-front, given-next, given-starts, next-accepted, none-counted, stay-accepted}
-use Rattle.tracker_session.proofs.Sents.{AllCounted, Sent, counted-all, heard_by, nothing-written, sent-items, sent-last}
+use Rattle.tracker_session.proofs.Releasing.{AreGiven, count-recs, given-after, given-back, given-front, given-next, given-starts, next-accepted, stay-accepted}
+use Rattle.tracker_session.proofs.Sents.{Sent, counted-all, heard_by, nothing-written, sent-items, sent-last}
 use Rattle.tracker_session.proofs.Spelled.{ArePlain, IsPlaced, IsPlain, never-broken, none-taken, plain-front, plain-items, plain-last, reading-placed, reading-spelled, spelled}
 
 -- What was sent and heard at the end of a talk, by where the round stands then.

@@ -1,8 +1,7 @@
 -- A round over any link: how it went, and what it did to the records that are held.
-use Rattle.std.specs.Prelude.{◌≡◌, ◌⊎◌, ℕ, ◌≤◌, List, [], Option, Some, None, Result, Ok}
+use Rattle.std.specs.Prelude.{ℕ, Option, Some, None, Result}
 use Rattle.avl_values.specs.declared.errors.MediumFault.{MediumFault}
 use Rattle.links.specs.Links.{Traffic}
-use Rattle.flash_ring.specs.Entries.{held_of}
 use Rattle.flash_ring.specs.Records.{recs_in}
 use Rattle.flash_ring.specs.Ring.{RingView}
 use Rattle.tracker_session.specs.Responses.{ShellMeaning}

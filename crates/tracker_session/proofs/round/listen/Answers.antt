@@ -90,8 +90,8 @@ returns-in-Some-clause-ends g c =
     let within : at + n ≤ count = omega (arith, length-take (count - at) (drop at buffer)) in
     let P : Ending → Type 0 = λ e. Takes m e c.items.tracker c.take_one-n.new.tracker (take (count - at) (drop at buffer)) n c.items.shell c.take_one-n.new.shell c.items.progress c.take_one-n.new.progress y z in
     let ends = ends-with m r (inv.0 ++ take at buffer) (inv.0 ++ take count buffer) (take (count - at) (drop at buffer)) (drop (at + n) (take count buffer)) n c.args.tracker.now.ring c.items.tracker c.items.progress c.items.shell x y inv.1
-        (all-taken inv.0 buffer at n count within) (Rose (g.L.Link.state c.args.link.now).faults (g.L.Link.state c.take_one-n.new.link).faults) c.in-Some.end c.take_one-n.new.tracker c.take_one-n.new.progress c.take_one-n.new.shell z (subst P c.in-Some.is c.take_one-n.ensures.takes)
-        (λ broken. let faults = inv.9 in let rose = c.take_one-n.ensures.broken.cause (c.in-Some.is ∙ ap (λ (e : Result RoundEnd MediumFault). Some e) broken) in omega arith) in (
+    (all-taken inv.0 buffer at n count within) (Rose (g.L.Link.state c.args.link.now).faults (g.L.Link.state c.take_one-n.new.link).faults) c.in-Some.end c.take_one-n.new.tracker c.take_one-n.new.progress c.take_one-n.new.shell z (subst P c.in-Some.is c.take_one-n.ensures.takes)
+    (λ broken. let faults = inv.9 in let rose = c.take_one-n.ensures.broken.cause (c.in-Some.is ∙ ap (λ (e : Result RoundEnd MediumFault). Some e) broken) in omega arith) in (
       inv.0 ++ take count buffer,
       ends.0,
       piece-bytes inv.0 buffer at count fits inv.1.bytes_heard c.take_one-n.ensures.bytes,

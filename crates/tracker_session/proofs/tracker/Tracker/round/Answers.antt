@@ -31,7 +31,7 @@ returns-clause-talks g c =
     let durable : IsDurable c.args.self.now.ring = c.is_down-durable.ensures.durable c.requires.up in
     let ring = rounds-ring m r c.args.self.now.ring durable refl rose c.connect.result goes.0 c.connect.new.tracker.ring c.connect.new.shell _ _ goes.1 in
     λ steady some. round-talks m r durable.sound c.args.self.now.ring c.connect.new.tracker.ring c.connect.new.shell rose steady (λ none. some (c.connect.ensures.empty.1 none)) c.requires.some refl c.connect.result goes.0
-        (g.L.Link.state c.args.link.now).told (g.L.Link.state c.connect.new.link).told goes.1 ring
+    (g.L.Link.state c.args.link.now).told (g.L.Link.state c.connect.new.link).told goes.1 ring
 
 pub returns-clause-drained : goal.returns-clause-drained
 returns-clause-drained g c =
