@@ -2,7 +2,7 @@
 use crate::samples::{held, with_records};
 use avl_values::{Codec, MediumFault};
 use crc_field::crc;
-use frame_channel::MemoryLink;
+use frame_channel::{Link, MemoryLink};
 use medium::{MemoryBench, Tear};
 use std::alloc::Global;
 use std::test::Fail;
@@ -201,5 +201,39 @@ fn each_call_of_the_flash_fails_in_turn(rt: HostRuntime) -> Result<(), Fail> {
     assert!(rt; flash_fails(alloc, 2) == Some((failed, 1)));
     assert!(rt; flash_fails(alloc, 3) == Some((failed, 1)));
     assert!(rt; flash_fails(alloc, 4) == Some((Ok(RoundEnd::Done(2)), 0)));
+    Ok(())
+}
+
+// A round of at most `most` batches over a link that gives its bytes in one piece; how it ended, and how many more bytes the link gave.
+fn in_one_piece(alloc: Global, incoming: &[u8], most: u32) -> Option<(Seen, usize)> {
+    let mut tracker = with_records(alloc, &[Codec::C8, Codec::C8E])?;
+    if tracker.is_down() || most == 0 {
+        return None;
+    }
+    let mut link = MemoryLink::new(alloc, incoming, 64, 4096, &[]).ok()?;
+    let ended = tracker.round(&mut link, &mut PlainShell, most);
+    let seen = Seen {
+        ended,
+        written: link.written().len(),
+        held: held(&tracker),
+    };
+    let more = link.read(&mut [0; 64]).ok()?;
+    Some((seen, more))
+}
+
+// The frame of one record has 45 bytes in Codec 8 and 53 in Codec 8 Extended.
+#[test]
+fn bytes_in_the_same_piece_are_taken_and_not_looked_at(rt: HostRuntime) -> Result<(), Fail> {
+    let alloc = rt.alloc();
+    let rows: [(&[u8], u32, RoundEnd, usize, u16); 4] = [
+        (b"\x01\x00\x00\x00\x01\x00\x00\x00\x01\x07", 4, RoundEnd::Done(2), 115, 0),
+        (b"\x01\x00\x00\x00\x01\x00\x00\x00\x01", 1, RoundEnd::Done(1), 62, 1),
+        (b"\x00\x00\x00\x00\x01", 4, RoundEnd::Refused, 17, 2),
+        (b"\x01\x00\x00\x00\x01\x00\x00", 4, RoundEnd::Broken, 115, 1),
+    ];
+    for (incoming, most, ended, written, held) in rows {
+        let (seen, more) = in_one_piece(alloc, incoming, most).expect(&rt, "a round");
+        assert!(rt; Some(seen) == ending(ended, written, held) && more == 0);
+    }
     Ok(())
 }

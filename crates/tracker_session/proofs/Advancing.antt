@@ -1,11 +1,11 @@
 -- A round, one item after the other.
-use Rattle.std.proofs.Common.{◌≡◌, ℕ, true, false, List, [], ◌∷◌, ◌++◌, length, refl, sym, ap, subst, ◌∙◌, append_assoc, append-nil}
+use Rattle.std.proofs.Common.{◌≡◌, ℕ, ◌+◌, true, false, List, [], ◌∷◌, ◌++◌, length, refl, sym, ap, subst, ◌∙◌, append_assoc, append-nil, arith}
 use Rattle.std.proofs.lemmas.List.{map-append}
-use Rattle.layout.specs.Rows.{Verdict, whole, short, judge}
-use Rattle.item_streams.specs.Streams.{Item, IsNotWhole, values}
+use Rattle.layout.specs.Rows.{Rows, Verdict, whole, short, judge}
+use Rattle.item_streams.specs.Streams.{Item, IsNotWhole, Reading, next_rows, place_after, reading_of, values, with_items}
 use Rattle.item_streams.proofs.StreamSteps.{later_place, rest_completes, rest_grows}
 use Rattle.item_streams.specs.Laws.{AreStreamRows}
-use Rattle.item_streams.proofs.StreamLaws.{nothing_read}
+use Rattle.item_streams.proofs.StreamLaws.{add_up, compose, nothing_read}
 use Rattle.frame_layout.specs.DownRows.{down_rows, down_verdict}
 use Rattle.frame_layout.specs.Readings.{down_reading}
 use Rattle.frame_layout.specs.Values.{DownValue}
@@ -16,6 +16,20 @@ use Rattle.tracker_session.specs.Rounds.{Advances, written}
 
 pub down_begins : AreStreamRows (down_rows false) (down_rows true)
 down_begins = record { first_begins = starts_short_down false; later_begins = starts_short_down true }
+
+-- bytes after those that are read to their last
+pub reads-after : (heard back : List ℕ) (items : List (Item DownValue)) (last : Item DownValue) → down_reading false heard ≡ record { items = items ++ last ∷ []; rest = [] }
+    → down_reading false (heard ++ back) ≡ with_items (items ++ last ∷ []) (reading_of (down_rows true) (down_rows true) (length heard) back)
+reads-after heard back items last e =
+    let all = items ++ last ∷ [] in
+    let first = down_rows false in
+    let later = down_rows true in
+    let P : Reading DownValue → Type 0 = λ r. place_after 0 r.items + length r.rest ≡ 0 + length heard in
+    let place : place_after 0 all ≡ length heard = (let both = subst P e (add_up first later 0 heard down_begins) in omega arith) in
+    compose first later 0 heard back down_begins
+    ∙ ap (λ (r : Reading DownValue). with_items r.items (reading_of (next_rows first later r.items) later (place_after 0 r.items) (r.rest ++ back))) e
+    ∙ ap (λ (rows : Rows DownValue). with_items all (reading_of rows later (place_after 0 all) back)) (later_place first later items last)
+    ∙ ap (λ (n : ℕ). with_items all (reading_of later later n back)) place
 
 module _ {S : Type 0} (m : ShellMeaning S) (r : Round S) where
   pub text-last : (d : RoundState S) (vs : List DownValue) (v : DownValue) → text m r d (vs ++ v ∷ []) ≡ text m r d vs ++ writes m r (after m r d vs) v

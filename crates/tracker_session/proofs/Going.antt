@@ -2,7 +2,9 @@
 use Rattle.std.proofs.Common.{◌≡◌, ℕ, ◌+◌, ◌-◌, ◌<◌, nat_lt, Bool, true, List, [], ◌∷◌, ◌++◌, length, take, Option, None, refl, sym, ap, subst, ◌∙◌, append-nil, arith, length-append}
 use Rattle.std.proofs.lemmas.Bool.{ltb-true}
 use Rattle.avl_values.specs.declared.order.Order.{Order}
+use Rattle.layout.specs.Bytes.{AreBytes}
 use Rattle.layout.specs.Rows.{Verdict, whole}
+use Rattle.layout.proofs.Numbers.{bytes-append, bytes-take}
 use Rattle.links.specs.Links.{Moves, Traffic}
 use Rattle.links.proofs.Moving.{moves_as, moves_then}
 use Rattle.medium_model.specs.State.{MediumState}
@@ -14,7 +16,7 @@ use Rattle.flash_ring.specs.Ring.{RingView}
 use Rattle.tracker_session.specs.Batches.{frame_in}
 use Rattle.tracker_session.specs.Hearing.{HearsSome, Releases}
 use Rattle.tracker_session.specs.Responses.{ShellMeaning, answer_frame, shell_after}
-use Rattle.tracker_session.specs.RoundStates.{Fits, Round, RoundState, accepts, counts, next, next_batch, one_less, sends, slots_now, writes}
+use Rattle.tracker_session.specs.RoundStates.{Fits, IsWaiting, Round, RoundState, accepts, counts, next, next_batch, one_less, sends, slots_now, writes}
 use Rattle.tracker_session.specs.Rounds.{Advances, Leaves, written}
 use Rattle.tracker_session.specs.Trackers.{TrackerView}
 use Rattle.tracker_session.specs.Turns.{IsReady, Reacts, SendsBatch, Takes, batch_now}
@@ -148,6 +150,7 @@ module _ {S : Type 0} (m : ShellMeaning S) (r : Round S) where
   -- A round that goes on: the bytes heard are read, and for their items all is done.
   pub record Goes (bytes taken : List ℕ) (old : RingView) (v : TrackerView) (p : Progress) (s : S) (x y : Option Traffic) : Type 0 where
     pub state : RoundState S
+    pub bytes_heard : AreBytes bytes
     pub advances : Advances m r bytes v.have state
     pub stands : Stands state old v p s
     pub wire : Moves taken (written m r advances) x y
@@ -158,15 +161,16 @@ module _ {S : Type 0} (m : ShellMeaning S) (r : Round S) where
   judged d old v p s all verdict at e = ap (λ (b : Bool). down_verdict b all) (sym at.accepted) ∙ e
 
   -- one more item, for which all is done
-  goes-item : (bytes taken b : List ℕ) (old : RingView) (v w : TrackerView) (p q : Progress) (s t : S) (x y z : Option Traffic) (g : Goes bytes taken old v p s x y) (item : DownValue)
+  goes-item : (bytes taken b : List ℕ) (old : RingView) (v w : TrackerView) (p q : Progress) (s t : S) (x y z : Option Traffic) (g : Goes bytes taken old v p s x y) (item : DownValue) → AreBytes b
       → down_verdict v.answered (v.have ++ b) ≡ whole item (length (v.have ++ b)) → Fits m r g.state item → (next m r g.state item).accepted ≡ true
       → Stands (next m r g.state item) old w q t → Moves [] (writes m r g.state item) y z → w.have ≡ [] → IsReady w → Goes (bytes ++ b) taken old w q t x z
-  goes-item bytes taken b old v w p q s t x y z g item verdict fits accepted at sent none ready =
+  goes-item bytes taken b old v w p q s t x y z g item known verdict fits accepted at sent none ready =
       let d = g.state in
       let e = judged d old v p s (v.have ++ b) _ g.stands verdict in
       let a = advances-item m r bytes v.have b d item g.advances e fits accepted in
       record {
         state = next m r d item;
+        bytes_heard = bytes-append bytes b g.bytes_heard known;
         advances = advances-as m r (bytes ++ b) (bytes ++ b) [] w.have (next m r d item) (next m r d item) refl (sym none) refl a;
         stands = at;
         wire = moves_as (taken ++ []) _ taken _ x z (append-nil taken) (sym (written-item m r bytes v.have b d item g.advances e fits accepted)) (moves_then taken (written m r g.advances) [] (writes m r d item) x y z g.wire sent);
@@ -174,7 +178,11 @@ module _ {S : Type 0} (m : ShellMeaning S) (r : Round S) where
       }
 
   -- What a turn that doesn't end the round does.
-  module _ (bytes taken piece : List ℕ) (n : ℕ) (old : RingView) (v u w : TrackerView) (out : List ℕ) (p q : Progress) (s t : S) (x y z : Option Traffic) (g : Goes bytes taken old v p s x y) (ready : IsReady w) where
+  module _ (bytes taken piece : List ℕ) (n : ℕ) (old : RingView) (v u w : TrackerView) (out : List ℕ) (p q : Progress) (s t : S) (x y z : Option Traffic) (g : Goes bytes taken old v p s x y) (known : AreBytes piece) (ready : IsReady w) where
+    -- what was taken
+    took : AreBytes (take n piece)
+    took = bytes-take n piece known
+
     goes-by : (h : Hearing) → HearsSome m (nat_lt p.orders 16) v u piece n h s t out → Reacts h None u w out p q y z → Goes (bytes ++ take n piece) taken old w q t x z
     goes-by (hearing.Done heard.More) hears reacts =
         let steps = hears.0.steps in
@@ -186,6 +194,7 @@ module _ {S : Type 0} (m : ShellMeaning S) (r : Round S) where
         let a = advances-more m r bytes v.have (take n piece) d g.advances (judged d old v p s all _ g.stands steps.0) in
         record {
           state = d;
+          bytes_heard = bytes-append bytes (take n piece) g.bytes_heard took;
           advances = advances-as m r (bytes ++ take n piece) (bytes ++ take n piece) all w.have d d refl (sym (ap (λ (k : TrackerView). k.have) view)) refl a;
           stands = subst P (λ i. (sym view i, sym reacts.progress i, sym steps.2 i)) at;
           wire = (let Q : Option Traffic → Type 0 = λ k. Moves taken (written m r g.advances) x k in subst Q (sym reacts.told) g.wire);
@@ -197,7 +206,7 @@ module _ {S : Type 0} (m : ShellMeaning S) (r : Round S) where
         let d = g.state in
         let at = sends-on (accepts m r d) old u w p q s y z (accepts-on d old v u p s g.stands f.2) reacts in
         let P : S → Type 0 = λ k. Stands (next m r d (answer 1)) old w q k in
-        goes-item bytes taken (take n piece) old v w p q s t x y z g (answer 1) (steps.1 ∙ ap (λ (i : DownValue). whole i (length (v.have ++ take n piece))) f.0) (sym g.stands.accepted ∙ f.1, refl) refl
+        goes-item bytes taken (take n piece) old v w p q s t x y z g (answer 1) took (steps.1 ∙ ap (λ (i : DownValue). whole i (length (v.have ++ take n piece))) f.0) (sym g.stands.accepted ∙ f.1, refl) refl
         (subst P (sym f.3) at.0) at.1 (ap (λ (k : TrackerView). k.have) reacts.1 ∙ ap (λ (k : TrackerView). k.have) f.2) ready
     goes-by (hearing.Done heard.Refused) hears reacts = absurd reacts
     goes-by (hearing.Done (heard.Released k)) hears reacts =
@@ -209,7 +218,7 @@ module _ {S : Type 0} (m : ShellMeaning S) (r : Round S) where
         let size : length v.batch ≡ length d.batch = ap length g.stands.batch in
         let accepted : d.accepted ≡ true = sym g.stands.accepted ∙ f.1 in
         let some = f.2 in
-        goes-item bytes taken (take n piece) old v w p q s t x y z g (count (length v.batch)) (steps.1 ∙ ap (λ (i : DownValue). whole i (length (v.have ++ take n piece))) f.0) (accepted, (omega arith), size) accepted
+        goes-item bytes taken (take n piece) old v w p q s t x y z g (count (length v.batch)) took (steps.1 ∙ ap (λ (i : DownValue). whole i (length (v.have ++ take n piece))) f.0) (accepted, (omega arith), size) accepted
         (subst P (sym f.6) at.0) at.1 (ap (λ (j : TrackerView). j.have) reacts.1 ∙ ap (λ (j : TrackerView). j.have) f.4) ready
     goes-by (hearing.Done heard.Answer) hears reacts =
         let steps = hears.0.steps in
@@ -221,12 +230,16 @@ module _ {S : Type 0} (m : ShellMeaning S) (r : Round S) where
         let low = ltb-true p.orders 16 (hears.1 refl) in
         let orders_at = g.stands.orders in
         let said : out ≡ writes m r d (order body) = f.5 ∙ ap (λ (j : ℕ × S). answer_frame m j.0 j.1 body) (λ i. (g.stands.imei i, g.stands.leaves.shell i)) in
-        goes-item bytes taken (take n piece) old v w p q s t x y z g (order body) (steps.1 ∙ ap (λ (i : DownValue). whole i (length (v.have ++ take n piece))) f.1) (accepted, omega arith) accepted
+        goes-item bytes taken (take n piece) old v w p q s t x y z g (order body) took (steps.1 ∙ ap (λ (i : DownValue). whole i (length (v.have ++ take n piece))) f.1) (accepted, omega arith) accepted
         (orders-on d old v w p q s t body g.stands view reacts.0.0 f.4) (moves_as [] out [] _ y z refl said reacts.0.1) (ap (λ (j : TrackerView). j.have) view) ready
     goes-by (hearing.Done (heard.Wrong e)) hears reacts = absurd reacts
     goes-by (hearing.Done heard.MediumFault) hears reacts = absurd reacts
     goes-by hearing.Unobeyed hears reacts = absurd reacts
 
   -- The round goes on.
-  pub goes-on : (bytes taken piece : List ℕ) (n : ℕ) (old : RingView) (v w : TrackerView) (p q : Progress) (s t : S) (x y z : Option Traffic) → Goes bytes taken old v p s x y → Takes m None v w piece n s t p q y z → IsReady w → Goes (bytes ++ take n piece) taken old w q t x z
-  goes-on bytes taken piece n old v w p q s t x y z g takes ready = goes-by bytes taken piece n old v takes.heard w takes.out p q s t x y z g ready takes.hearing takes.hears takes.reacts
+  pub goes-on : (bytes taken piece : List ℕ) (n : ℕ) (old : RingView) (v w : TrackerView) (p q : Progress) (s t : S) (x y z : Option Traffic) → Goes bytes taken old v p s x y → AreBytes piece → Takes m None v w piece n s t p q y z → IsReady w → Goes (bytes ++ take n piece) taken old w q t x z
+  goes-on bytes taken piece n old v w p q s t x y z g known takes ready = goes-by bytes taken piece n old v takes.heard w takes.out p q s t x y z g known ready takes.hearing takes.hears takes.reacts
+
+  -- while it goes on it waits
+  pub waiting : (bytes taken : List ℕ) (old : RingView) (v : TrackerView) (p : Progress) (s : S) (x y : Option Traffic) (g : Goes bytes taken old v p s x y) → IsWaiting g.state
+  waiting bytes taken old v p s x y g = λ e. subst (λ (ks : List ℕ). 0 < length ks) g.stands.batch (g.ready.batch (g.stands.accepted ∙ e))

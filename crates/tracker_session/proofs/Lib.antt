@@ -11,3 +11,12 @@ pub mod Stopping
 pub mod Listening
 pub mod Connecting
 pub mod Releasing
+pub mod Spelled
+pub mod RecordBytes
+pub mod Bodies
+pub mod Sents
+pub mod Draining
+pub mod Telling
+pub mod RightAnswers
+pub mod NoCommands
+pub mod Exports

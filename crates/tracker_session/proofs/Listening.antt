@@ -1,7 +1,9 @@
 -- A round that listens: its start, a read, and a piece taken bit by bit.
-use Rattle.std.proofs.Common.{◌≡◌, ℕ, ◌+◌, ◌-◌, ◌≤◌, List, [], ◌++◌, take, drop, Option, refl, sym, ap, ◌∙◌, append_assoc, append-nil, arith}
+use Rattle.std.proofs.Common.{◌≡◌, ℕ, ◌+◌, ◌-◌, ◌≤◌, List, [], ◌++◌, take, drop, Option, refl, sym, ap, subst, ◌∙◌, append_assoc, append-nil, arith}
 use Rattle.std.proofs.lemmas.List.{take-append-drop, take-take}
 use Rattle.std.proofs.Math.Seq.{take-add}
+use Rattle.layout.specs.Bytes.{AreBytes}
+use Rattle.layout.proofs.Numbers.{bytes-append}
 use Rattle.links.specs.Links.{Moves, Traffic}
 use Rattle.links.proofs.Moving.{moves_as, moves_none, moves_then}
 use Rattle.medium_model.proofs.Images.{counted-none}
@@ -30,11 +32,19 @@ all-taken heard buffer at n count le =
     ∙ sym (append_assoc heard (take (at + n) buffer) (drop (at + n) (take count buffer)))
     ∙ ap (λ (b : List ℕ). b ++ drop (at + n) (take count buffer)) (sym (heard-more heard buffer at n count le))
 
+-- the bytes of a piece, heard up to a place and left from there on
+pub piece-bytes : (heard buffer : List ℕ) (at count : ℕ) → at ≤ count → AreBytes (heard ++ take at buffer) → AreBytes (take (count - at) (drop at buffer)) → AreBytes (heard ++ take count buffer)
+piece-bytes heard buffer at count le front back =
+    let same : (heard ++ take at buffer) ++ take (count - at) (drop at buffer) ≡ heard ++ take count buffer =
+    append_assoc heard (take at buffer) (take (count - at) (drop at buffer)) ∙ ap (λ (b : List ℕ). heard ++ b) (sym (take-add at (count - at) buffer)) ∙ ap (λ (n : ℕ). heard ++ take n buffer) (omega arith) in
+    subst AreBytes same (bytes-append (heard ++ take at buffer) (take (count - at) (drop at buffer)) front back)
+
 module _ {S : Type 0} (m : ShellMeaning S) where
   -- a round that begins
   pub goes-none : (v : TrackerView) (p : Progress) (s : S) (x : Option Traffic) → IsReady v → Begins v p → Goes m (round_of v p s) [] [] v.ring v p s x x
   goes-none v p s x ready begins = record {
     state = starts (round_of v p s);
+    bytes_heard = tt;
     advances = advances-as m (round_of v p s) [] [] [] v.have (starts (round_of v p s)) (starts (round_of v p s)) refl (sym begins.have) refl (advances-none m (round_of v p s));
     stands = record {
       accepted = begins.answered;
@@ -54,6 +64,7 @@ module _ {S : Type 0} (m : ShellMeaning S) where
   pub goes-read : (r : Round S) (bytes other taken more : List ℕ) (old : RingView) (v : TrackerView) (p : Progress) (s : S) (x y z : Option Traffic) → bytes ≡ other → Goes m r bytes taken old v p s x y → Moves more [] y z → Goes m r other (taken ++ more) old v p s x z
   goes-read r bytes other taken more old v p s x y z same g move = record {
     state = g.state;
+    bytes_heard = subst AreBytes same g.bytes_heard;
     advances = advances-as m r bytes other v.have v.have g.state g.state same refl refl g.advances;
     stands = g.stands;
     wire = moves_as (taken ++ more) (written m r g.advances ++ []) (taken ++ more) (written m r g.advances) x z refl (append-nil (written m r g.advances)) (moves_then taken (written m r g.advances) more [] x y z g.wire move);
@@ -64,6 +75,7 @@ module _ {S : Type 0} (m : ShellMeaning S) where
   pub goes-as : (r : Round S) (bytes other taken : List ℕ) (old : RingView) (v : TrackerView) (p : Progress) (s : S) (x y : Option Traffic) → bytes ≡ other → Goes m r bytes taken old v p s x y → Goes m r other taken old v p s x y
   goes-as r bytes other taken old v p s x y same g = record {
     state = g.state;
+    bytes_heard = subst AreBytes same g.bytes_heard;
     advances = advances-as m r bytes other v.have v.have g.state g.state same refl refl g.advances;
     stands = g.stands;
     wire = g.wire;

@@ -6,6 +6,7 @@ use Rattle.std.specs.List.{cons_option}
 use Rattle.avl_values.specs.declared.errors.MediumFault.{MediumFault}
 use Rattle.avl_values.specs.declared.order.Order.{Order}
 use Rattle.avl_values.specs.Record.{Record}
+use Rattle.layout.specs.Rows.{Verdict, fault, short}
 use Rattle.item_streams.specs.Streams.{values}
 use Rattle.links.specs.Links.{Traffic}
 use Rattle.medium_model.proofs.Images.{counted-as, counted-none}
@@ -21,7 +22,7 @@ use Rattle.flash_ring.proofs.HeldRecords.{held_of-may_close, length-held_of_clos
 use Rattle.tracker_session.specs.Responses.{ShellMeaning}
 use Rattle.tracker_session.specs.RingRounds.{IsReleased, IsRingEnd, RoundsRing}
 use Rattle.tracker_session.specs.RoundStates.{AllFit, Fits, Round, RoundState, after, next, starts}
-use Rattle.tracker_session.specs.Rounds.{Ends, FailsInside, IsRound, Leaves, Stops, cut, empty, talked}
+use Rattle.tracker_session.specs.Rounds.{Ends, FailsInside, IsRound, Leaves, Rests, Stops, cut, empty, stands_at, talked}
 use Rattle.tracker_session.specs.Turns.{batch_now}
 use Rattle.tracker_session.specs.declared.heard.Got.TheVariants as got
 use Rattle.tracker_session.specs.declared.round_end.RoundEnd.{RoundEnd}
@@ -86,7 +87,7 @@ closed-shut (k ∷ ks) slots j h has is = elim (has-cases k j (has_slot ks j) ha
         absurd cc
 
 -- a slot that is open after some were closed was open before
-opened-before : (ks : List ℕ) (slots : List (Option Held)) (j : ℕ) (h : Held) → slice_get (closed_all ks slots) j ≡ Some (Some h) → slice_get slots j ≡ Some (Some h)
+pub opened-before : (ks : List ℕ) (slots : List (Option Held)) (j : ℕ) (h : Held) → slice_get (closed_all ks slots) j ≡ Some (Some h) → slice_get slots j ≡ Some (Some h)
 opened-before ks slots j h is = elim ((may-close_all ks slots).each j) as (λ _. slice_get slots j ≡ Some (Some h)) [
   | inl same ↦ sym same ∙ is
   | inr gone ↦ (let e : Some None ≡ Some (Some h) = sym gone.1 ∙ is in absurd cc)
@@ -104,12 +105,15 @@ pub record AreGiven (slots : List (Option Held)) (ks : List ℕ) : Type 0 where
   pub opens : AreOpen ks slots
   pub distinct : AreDistinct ks
 
-given-front : (slots : List (Option Held)) (a b : List ℕ) → AreGiven slots (a ++ b) → AreGiven slots a
+pub given-front : (slots : List (Option Held)) (a b : List ℕ) → AreGiven slots (a ++ b) → AreGiven slots a
 given-front slots a b given = record { opens = λ j has. given.opens j (has-front a b j has); distinct = front a b given.distinct }
   where
     front : (a b : List ℕ) → AreDistinct (a ++ b) → AreDistinct a
     front [] b d = tt
     front (k ∷ a) b d = ((λ has. d.0 (has-front a b k has)), front a b d.1)
+
+pub given-back : (slots : List (Option Held)) (a b : List ℕ) → AreGiven slots (a ++ b) → AreOpen b slots
+given-back slots a b given = λ j has. given.opens j (has-back a b j has)
 
 -- the next batch is of slots that weren't closed yet
 given-batch : (slots : List (Option Held)) (ks : List ℕ) (left : ℕ) (o : Order) → AreGiven slots ks → AreGiven slots (ks ++ batch_now left o (closed_all ks slots))
@@ -129,10 +133,7 @@ given-batch slots ks left o given = elim (left == 0) as (λ b. AreGiven slots (k
 
 module _ {S : Type 0} (m : ShellMeaning S) (r : Round S) where
   -- the slots of the counted batches and of the outstanding one
-  abbrev given : RoundState S → Type 0
-  given d = AreGiven r.slots (d.closed ++ d.batch)
-
-  given-next : (d : RoundState S) (v : DownValue) → given d → given (next m r d v)
+  pub given-next : (d : RoundState S) (v : DownValue) → AreGiven r.slots (d.closed ++ d.batch) → AreGiven r.slots ((next m r d v).closed ++ (next m r d v).batch)
   given-next d (answer b) g = given-batch r.slots d.closed d.left r.sends (given-front r.slots d.closed d.batch g)
   given-next d (count n) g = given-batch r.slots (d.closed ++ d.batch) d.left r.sends g
   given-next d (order body) g = g
@@ -145,12 +146,12 @@ module _ {S : Type 0} (m : ShellMeaning S) (r : Round S) where
   given-starts = record { opens = λ j has. absurd (false≢true has); distinct = tt }
 
   -- before the login was accepted no batch is counted
-  next-accepted : (d : RoundState S) (v : DownValue) → Fits m r d v → (next m r d v).accepted ≡ true
+  pub next-accepted : (d : RoundState S) (v : DownValue) → Fits m r d v → (next m r d v).accepted ≡ true
   next-accepted d (answer b) f = refl
   next-accepted d (count n) f = f.0
   next-accepted d (order body) f = f.0
 
-  stay-accepted : (d : RoundState S) (vs : List DownValue) → d.accepted ≡ true → AllFit m r d vs → (after m r d vs).accepted ≡ true
+  pub stay-accepted : (d : RoundState S) (vs : List DownValue) → d.accepted ≡ true → AllFit m r d vs → (after m r d vs).accepted ≡ true
   stay-accepted d [] e f = e
   stay-accepted d (v ∷ vs) e f = stay-accepted (next m r d v) vs (next-accepted d v f.0) f.1
 
@@ -220,12 +221,12 @@ module _ {S : Type 0} (m : ShellMeaning S) (r : Round S) (old : RingView) (durab
       let l : Leaves m r (starts r) old old r.shell = record { ring = ap of (sym same); durable = durable; counted = counted-none old.medium; untouched = λ _. refl; shell = refl } in
       leaves-ring (Ok e) (starts r) old r.shell (given-starts m r) l (passes e) ends
 
-  -- how many batches were counted, and which records were released
-  abbrev pub Released : Result RoundEnd MediumFault → RingView → Type 0
-  Released result new = (heard : ℕ) × (released : List Record) × RoundsRing result heard released old new
+  -- what a round does to a ring, by where it stands at its end
+  abbrev pub Released : Result RoundEnd MediumFault → RoundState S → RingView → Type 0
+  Released result d new = RoundsRing result d.frames (recs_in old.slots d.closed) old new
 
-  by-leaves : (e : RoundEnd) (d : RoundState S) (new : RingView) (t : S) → AreGiven r.slots (d.closed ++ d.batch) → Leaves m r d old new t → IsRingEnd (Ok e) old new → Released (Ok e) new
-  by-leaves e d new t given l ends = (d.frames, recs_in old.slots d.closed, leaves-ring (Ok e) d new t given l (passes e) ends)
+  by-leaves : (e : RoundEnd) (d : RoundState S) (new : RingView) (t : S) → AreGiven r.slots (d.closed ++ d.batch) → Leaves m r d old new t → IsRingEnd (Ok e) old new → Released (Ok e) d new
+  by-leaves e d new t given l ends = leaves-ring (Ok e) d new t given l (passes e) ends
 
   -- N records fewer are held
   fewer-held : (d : RoundState S) (new : RingView) (t : S) (n : ℕ) → AreGiven r.slots (d.closed ++ d.batch) → Leaves m r d old new t → n ≡ length d.closed → length (held_of new.slots) + n ≡ length (held_of old.slots)
@@ -236,43 +237,52 @@ module _ {S : Type 0} (m : ShellMeaning S) (r : Round S) (old : RingView) (durab
       let before : length (held_of r.slots) ≡ length (held_of old.slots) = ap (λ (s : List (Option Held)). length (held_of s)) same in
       omega arith
 
-  stops-ring : (result : Result RoundEnd MediumFault) (taken : List ℕ) (new : RingView) (t : S) (x y : Option Traffic) → Stops m r rose result taken old new t x y → Released result new
-  stops-ring (Ok (end.Done n)) taken new t x y s =
-      let d = after m r (starts r) (values s.items) in
-      let given = given-next m r d s.last.value (given-after m r (starts r) (values s.items) (given-starts m r)) in
-      by-leaves (end.Done n) (next m r d s.last.value) new t given s.stops.1 (fewer-held (next m r d s.last.value) new t n given s.stops.1 s.stops.3)
-  stops-ring (Ok end.Empty) taken new t x y s = absurd s.stops
-  stops-ring (Ok end.Refused) taken new t x y s =
-      let d = after m r (starts r) (values s.items) in
-      by-leaves end.Refused d new t (given-after m r (starts r) (values s.items) (given-starts m r)) s.stops.2 (s.stops.2.untouched (none-counted m r (values s.items) s.fits s.stops.1))
-  stops-ring (Ok end.Broken) taken new t x y s =
-      let d = after m r (starts r) (values s.items) in
-      by-leaves end.Broken (next m r d s.last.value) new t (given-next m r d s.last.value (given-after m r (starts r) (values s.items) (given-starts m r))) s.stops.1 tt
-  stops-ring (Ok (end.WrongAnswer g)) taken new t x y s = by-leaves (end.WrongAnswer g) (after m r (starts r) (values s.items)) new t (given-after m r (starts r) (values s.items) (given-starts m r)) s.stops.1 tt
-  stops-ring (Ok end.TooManyCommands) taken new t x y s = by-leaves end.TooManyCommands (after m r (starts r) (values s.items)) new t (given-after m r (starts r) (values s.items) (given-starts m r)) s.stops.3 tt
-  stops-ring (Err failed) taken new t x y s =
-      let d = after m r (starts r) (values s.items) in
-      (d.frames + 1, recs_in old.slots (d.closed ++ d.batch), fails-ring failed d new t (given-after m r (starts r) (values s.items) (given-starts m r)) s.stops.2)
+  -- the slots that were given to a round after some items
+  after-given : (vs : List DownValue) → AreGiven r.slots ((after m r (starts r) vs).closed ++ (after m r (starts r) vs).batch)
+  after-given vs = given-after m r (starts r) vs (given-starts m r)
 
-  ends-ring : (result : Result RoundEnd MediumFault) (taken : List ℕ) (new : RingView) (t : S) (x y : Option Traffic) → Ends m r rose result taken old new t x y → Released result new
-  ends-ring (Ok (end.Done n)) taken new t x y s = stops-ring (Ok (end.Done n)) taken new t x y s
-  ends-ring (Ok end.Empty) taken new t x y s = stops-ring (Ok end.Empty) taken new t x y s
-  ends-ring (Ok end.Refused) taken new t x y s = stops-ring (Ok end.Refused) taken new t x y s
-  ends-ring (Ok end.Broken) taken new t x y s = elim s as (λ _. Released (Ok end.Broken) new) [
-    | inl rests ↦ by-leaves end.Broken (after m r (starts r) (values rests.items)) new t (given-after m r (starts r) (values rests.items) (given-starts m r)) rests.leaves tt
-    | inr stops ↦ stops-ring (Ok end.Broken) taken new t x y stops
+  stops-at : (result : Result RoundEnd MediumFault) (taken : List ℕ) (d : RoundState S) (new : RingView) (t : S) (x y : Option Traffic) (s : Stops m r rose result taken d old new t x y)
+      → Released result (stands_at m r result (after m r (starts r) (values s.items)) s.last.value) new
+  stops-at (Ok (end.Done n)) taken d new t x y s =
+      let e = after m r (starts r) (values s.items) in
+      let given = given-next m r e s.last.value (after-given (values s.items)) in
+      by-leaves (end.Done n) (next m r e s.last.value) new t given s.stops.1 (fewer-held (next m r e s.last.value) new t n given s.stops.1 s.stops.3)
+  stops-at (Ok end.Empty) taken d new t x y s = absurd s.stops
+  stops-at (Ok end.Refused) taken d new t x y s =
+      by-leaves end.Refused (after m r (starts r) (values s.items)) new t (after-given (values s.items)) s.stops.2 (s.stops.2.untouched (none-counted m r (values s.items) s.fits s.stops.1))
+  stops-at (Ok end.Broken) taken d new t x y s =
+      let e = after m r (starts r) (values s.items) in
+      by-leaves end.Broken (next m r e s.last.value) new t (given-next m r e s.last.value (after-given (values s.items))) s.stops.1 tt
+  stops-at (Ok (end.WrongAnswer g)) taken d new t x y s = by-leaves (end.WrongAnswer g) (after m r (starts r) (values s.items)) new t (after-given (values s.items)) s.stops.1 tt
+  stops-at (Ok end.TooManyCommands) taken d new t x y s = by-leaves end.TooManyCommands (after m r (starts r) (values s.items)) new t (after-given (values s.items)) s.stops.3 tt
+  stops-at (Err failed) taken d new t x y s = fails-ring failed (after m r (starts r) (values s.items)) new t (after-given (values s.items)) s.stops.2
+
+  stops-ring : (result : Result RoundEnd MediumFault) (taken : List ℕ) (d : RoundState S) (new : RingView) (t : S) (x y : Option Traffic) → Stops m r rose result taken d old new t x y → Released result d new
+  stops-ring result taken d new t x y s = let P : RoundState S → Type 0 = λ e. Released result e new in subst P (sym s.state) (stops-at result taken d new t x y s)
+
+  rests-ring : (e : RoundEnd) (verdict : Verdict DownValue) (taken : List ℕ) (d : RoundState S) (new : RingView) (t : S) (x y : Option Traffic) → Rests m r verdict taken d old new t x y → IsRingEnd (Ok e) old new → Released (Ok e) d new
+  rests-ring e verdict taken d new t x y s ends =
+      let P : RoundState S → Type 0 = λ k. AreGiven r.slots (k.closed ++ k.batch) in
+      by-leaves e d new t (subst P (sym s.state) (after-given (values s.items))) s.leaves ends
+
+  ends-ring : (result : Result RoundEnd MediumFault) (taken : List ℕ) (d : RoundState S) (new : RingView) (t : S) (x y : Option Traffic) → Ends m r rose result taken d old new t x y → Released result d new
+  ends-ring (Ok (end.Done n)) taken d new t x y s = stops-ring (Ok (end.Done n)) taken d new t x y s
+  ends-ring (Ok end.Empty) taken d new t x y s = stops-ring (Ok end.Empty) taken d new t x y s
+  ends-ring (Ok end.Refused) taken d new t x y s = stops-ring (Ok end.Refused) taken d new t x y s
+  ends-ring (Ok end.Broken) taken d new t x y s = elim s as (λ _. Released (Ok end.Broken) d new) [
+    | inl rests ↦ rests-ring end.Broken short taken d new t x y rests tt
+    | inr stops ↦ stops-ring (Ok end.Broken) taken d new t x y stops
   ]
-  ends-ring (Ok (end.WrongAnswer (got.Login b))) taken new t x y s = stops-ring (Ok (end.WrongAnswer (got.Login b))) taken new t x y s
-  ends-ring (Ok (end.WrongAnswer (got.Count k))) taken new t x y s = stops-ring (Ok (end.WrongAnswer (got.Count k))) taken new t x y s
-  ends-ring (Ok (end.WrongAnswer (got.Frame found))) taken new t x y s =
-      by-leaves (end.WrongAnswer (got.Frame found)) (after m r (starts r) (values s.items)) new t (given-after m r (starts r) (values s.items) (given-starts m r)) s.leaves tt
-  ends-ring (Ok end.TooManyCommands) taken new t x y s = stops-ring (Ok end.TooManyCommands) taken new t x y s
-  ends-ring (Err failed) taken new t x y s = stops-ring (Err failed) taken new t x y s
+  ends-ring (Ok (end.WrongAnswer (got.Login b))) taken d new t x y s = stops-ring (Ok (end.WrongAnswer (got.Login b))) taken d new t x y s
+  ends-ring (Ok (end.WrongAnswer (got.Count k))) taken d new t x y s = stops-ring (Ok (end.WrongAnswer (got.Count k))) taken d new t x y s
+  ends-ring (Ok (end.WrongAnswer (got.Frame found))) taken d new t x y s = rests-ring (end.WrongAnswer (got.Frame found)) (fault found.kind found.place) taken d new t x y s tt
+  ends-ring (Ok end.TooManyCommands) taken d new t x y s = stops-ring (Ok end.TooManyCommands) taken d new t x y s
+  ends-ring (Err failed) taken d new t x y s = stops-ring (Err failed) taken d new t x y s
 
   -- What a round does to a ring, by how it went.
-  pub rounds-ring : (result : Result RoundEnd MediumFault) (new : RingView) (t : S) (x y : Option Traffic) → IsRound m r rose old new t x y result → Released result new
-  rounds-ring result new t x y (empty none is shell told) =
-      let P : RingView → Type 0 = λ v. RoundsRing (Ok end.Empty) 0 [] old v in (0, [], subst P (sym is) (quiet-ring end.Empty none))
-  rounds-ring result new t x y (cut is shell part up) =
-      let P : RingView → Type 0 = λ v. RoundsRing (Ok end.Broken) 0 [] old v in (0, [], subst P (sym is) (quiet-ring end.Broken tt))
-  rounds-ring result new t x y (talked is taken z login ends) = ends-ring result taken new t z y ends
+  pub rounds-ring : (result : Result RoundEnd MediumFault) (d : RoundState S) (new : RingView) (t : S) (x y : Option Traffic) → IsRound m r rose d old new t x y result → Released result d new
+  rounds-ring result d new t x y (empty none at is shell told) =
+      let P : RoundState S × RingView → Type 0 = λ v. Released (Ok end.Empty) v.0 v.1 in subst P (λ i. (sym at i, sym is i)) (quiet-ring end.Empty none)
+  rounds-ring result d new t x y (cut at is shell part up) =
+      let P : RoundState S × RingView → Type 0 = λ v. Released (Ok end.Broken) v.0 v.1 in subst P (λ i. (sym at i, sym is i)) (quiet-ring end.Broken tt)
+  rounds-ring result d new t x y (talked is taken z login known ends) = ends-ring result taken d new t z y ends

@@ -6,7 +6,7 @@ use Rattle.layout.specs.Rows.{Verdict, whole, short, fault, judge}
 use Rattle.links.specs.Links.{Moves, Traffic, WritesPart}
 use Rattle.links.proofs.Moving.{moves_as, moves_none, moves_then}
 use Rattle.medium_model.proofs.Images.{counted-as, counted-then}
-use Rattle.item_streams.specs.Streams.{IsNotWhole, Item}
+use Rattle.item_streams.specs.Streams.{IsNotWhole, Item, values}
 use Rattle.item_streams.proofs.StreamSteps.{rest_grows}
 use Rattle.frame_layout.specs.DownRows.{down_rows, down_verdict}
 use Rattle.frame_layout.specs.Readings.{down_reading}
@@ -21,8 +21,8 @@ use Rattle.medium_model.specs.CallsLeft.{CallsLeft, unknown, unlimited, after as
 use Rattle.tracker_session.specs.Batches.{frame_in}
 use Rattle.tracker_session.specs.Hearing.{HearsSome, IsWrong}
 use Rattle.tracker_session.specs.Responses.{ShellMeaning, answer_frame}
-use Rattle.tracker_session.specs.RoundStates.{Fits, Round, RoundState, accepts, counts, next, next_batch, sends, slots_now, writes}
-use Rattle.tracker_session.specs.Rounds.{Ends, FailsInside, Leaves, Stops, StopsAt, written}
+use Rattle.tracker_session.specs.RoundStates.{Fits, IsWaiting, Round, RoundState, accepts, after, counts, next, next_batch, sends, slots_now, starts, writes}
+use Rattle.tracker_session.specs.Rounds.{Ends, FailsInside, Leaves, Rests, Stops, StopsAt, stands_at, written}
 use Rattle.tracker_session.specs.Trackers.{TrackerView}
 use Rattle.tracker_session.specs.Turns.{IsQuiet, Reacts, SendsAnswer, SendsBatch, Takes, batch_now}
 use Rattle.tracker_session.specs.declared.heard.Got.{Got}
@@ -33,8 +33,8 @@ use Rattle.tracker_session.specs.declared.heard.Hearing.TheVariants as hearing
 use Rattle.tracker_session.specs.declared.round.Progress.{Progress}
 use Rattle.tracker_session.specs.declared.round_end.RoundEnd.{RoundEnd}
 use Rattle.tracker_session.specs.declared.round_end.RoundEnd.TheVariants as end
-use Rattle.tracker_session.proofs.Advancing.{down_begins, last_item, reads-item}
-use Rattle.tracker_session.proofs.Going.{Goes, Stands, accepts-on, batch-same, counts-on, frame-same, judged, none-less, orders-on, slots-same}
+use Rattle.tracker_session.proofs.Advancing.{down_begins, last_item, reads-after, reads-item}
+use Rattle.tracker_session.proofs.Going.{Goes, Stands, accepts-on, batch-same, counts-on, frame-same, judged, none-less, orders-on, slots-same, waiting}
 
 some-reached : (left : CallsLeft) (ks : List ℕ) (before slots : List (Option Held)) → MayClose (reached left ks) before slots → MayClose ks before slots
 some-reached unknown ks before slots may = may
@@ -46,21 +46,32 @@ module _ {S : Type 0} (m : ShellMeaning S) (r : Round S) (bytes taken piece back
     (split : taken ≡ (bytes ++ take n piece) ++ back) (rose : Type 0) where
   -- the item at which it stops
   stops-at : (e : Result RoundEnd MediumFault) (item : DownValue) (ring : RingView) (t : S) (z : Option Traffic) (then_ : List ℕ) → down_verdict v.answered (v.have ++ take n piece) ≡ whole item (length (v.have ++ take n piece))
-      → StopsAt m r rose e g.state item old ring t then_ → Moves [] then_ y z → Stops m r rose e taken old ring t x z
+      → StopsAt m r rose e g.state item old ring t then_ → Moves [] then_ y z → (d : RoundState S) × Stops m r rose e taken d old ring t x z
   stops-at e item ring t z then_ verdict stops sent =
       let P : RoundState S → Type 0 = λ d. StopsAt m r rose e d item old ring t then_ in
-      record {
-        heard = bytes ++ take n piece;
-        back = back;
-        split = split;
-        items = g.advances.items;
-        last = last_item m r (bytes ++ take n piece) item;
-        reading = reads-item m r bytes v.have (take n piece) g.state item g.advances (judged m r g.state old v p s (v.have ++ take n piece) _ g.stands verdict);
-        fits = g.advances.fits;
-        then_ = then_;
-        stops = subst P g.advances.state stops;
-        wire = moves_as (taken ++ []) _ taken _ x z (append-nil taken) refl (moves_then taken (written m r g.advances) [] then_ x y z g.wire sent);
-      }
+      let last = last_item m r (bytes ++ take n piece) item in
+      let reading = reads-item m r bytes v.have (take n piece) g.state item g.advances (judged m r g.state old v p s (v.have ++ take n piece) _ g.stands verdict) in (
+        stands_at m r e (after m r (starts r) (values g.advances.items)) item,
+        record {
+          heard = bytes ++ take n piece;
+          back = back;
+          split = split;
+          items = g.advances.items;
+          last = last;
+          reading = reading;
+          reads_on = ap (down_reading false) split ∙ reads-after (bytes ++ take n piece) back g.advances.items last reading;
+          fits = g.advances.fits;
+          waits = subst (λ (d : RoundState S). IsWaiting d) g.advances.state (waiting m r bytes taken old v p s x y g);
+          state = refl;
+          then_ = then_;
+          stops = subst P g.advances.state stops;
+          wire = moves_as (taken ++ []) _ taken _ x z (append-nil taken) refl (moves_then taken (written m r g.advances) [] then_ x y z g.wire sent);
+        },
+      )
+
+  -- how it ends, and where it stands then
+  abbrev pub Ended : Result RoundEnd MediumFault → RingView → S → Option Traffic → Type 0
+  Ended e ring t z = (d : RoundState S) × Ends m r rose e taken d old ring t x z
 
   -- nothing was written for it
   quiet : (z : Option Traffic) → z ≡ y → Moves [] [] y z
@@ -71,7 +82,7 @@ module _ {S : Type 0} (m : ShellMeaning S) (r : Round S) (bytes taken piece back
 
   -- a batch went out in part, or there was none to send
   batch-stops : (e : Result RoundEnd MediumFault) (item : DownValue) (d : RoundState S) (u w : TrackerView) (p0 q : Progress) (t : S) (z : Option Traffic) → down_verdict v.answered (v.have ++ take n piece) ≡ whole item (length (v.have ++ take n piece))
-      → Fits m r g.state item → next m r g.state item ≡ sends m r d → writes m r g.state item ≡ frame_in (slots_now m r d) (next_batch m r d) → Stands m r d old u p0 t → SendsBatch (Some e) u w p0 q y z → (e ≡ Ok end.Broken → rose) → Ends m r rose e taken old w.ring t x z
+      → Fits m r g.state item → next m r g.state item ≡ sends m r d → writes m r g.state item ≡ frame_in (slots_now m r d) (next_batch m r d) → Stands m r d old u p0 t → SendsBatch (Some e) u w p0 q y z → (e ≡ Ok end.Broken → rose) → Ended e w.ring t z
   batch-stops (Ok (end.Done k)) item d u w p0 q t z verdict fits is_next says at sent cause =
       let none : next_batch m r d ≡ [] = sym (batch-same m r d old u p0 t at) ∙ sent.0 in
       let ring : w.ring ≡ u.ring = ap (λ (j : TrackerView). j.ring) sent.1 in
@@ -93,13 +104,14 @@ module _ {S : Type 0} (m : ShellMeaning S) (r : Round S) (bytes taken piece back
       let same : frame_in u.ring.slots (batch_now p0.left u.order u.ring.slots) ≡ writes m r g.state item = frame-same m r d old u p0 t at ∙ sym says in
       let Q : List ℕ → Type 0 = λ b. WritesPart b y z in
       let part = subst Q same sent.2 in
-      inr (stops-at (Ok end.Broken) item w.ring t z (take part.0 (writes m r g.state item)) verdict (fits, f, (part.0, part.1, refl), cause refl) part.2)
+      let st = stops-at (Ok end.Broken) item w.ring t z (take part.0 (writes m r g.state item)) verdict (fits, f, (part.0, part.1, refl), cause refl) part.2 in
+      (st.0, inr st.1)
   batch-stops (Ok (end.WrongAnswer got)) item d u w p0 q t z verdict fits is_next says at sent cause = absurd sent
   batch-stops (Ok end.TooManyCommands) item d u w p0 q t z verdict fits is_next says at sent cause = absurd sent
   batch-stops (Err failed) item d u w p0 q t z verdict fits is_next says at sent cause = absurd sent
 
   -- the login was refused
-  refused-stops : (u w : TrackerView) (q : Progress) (t : S) (z : Option Traffic) (out : List ℕ) → HearsSome m (nat_lt p.orders 16) v u piece n (hearing.Done heard.Refused) s t out → IsQuiet u w p q y z → Ends m r rose (Ok end.Refused) taken old w.ring t x z
+  refused-stops : (u w : TrackerView) (q : Progress) (t : S) (z : Option Traffic) (out : List ℕ) → HearsSome m (nat_lt p.orders 16) v u piece n (hearing.Done heard.Refused) s t out → IsQuiet u w p q y z → Ended (Ok end.Refused) w.ring t z
   refused-stops u w q t z out hears still =
       let steps = hears.0.steps in
       let f = steps.2 in
@@ -108,7 +120,7 @@ module _ {S : Type 0} (m : ShellMeaning S) (r : Round S) (bytes taken piece back
       (refl, sym g.stands.accepted ∙ f.1, leaves-as g.state v.ring w.ring s t g.stands.leaves ring f.3, refl) (quiet z still.told)
 
   -- a command too many
-  unobeyed-stops : (u w : TrackerView) (q : Progress) (t : S) (z : Option Traffic) (out : List ℕ) → HearsSome m (nat_lt p.orders 16) v u piece n hearing.Unobeyed s t out → IsQuiet u w p q y z → Ends m r rose (Ok end.TooManyCommands) taken old w.ring t x z
+  unobeyed-stops : (u w : TrackerView) (q : Progress) (t : S) (z : Option Traffic) (out : List ℕ) → HearsSome m (nat_lt p.orders 16) v u piece n hearing.Unobeyed s t out → IsQuiet u w p q y z → Ended (Ok end.TooManyCommands) w.ring t z
   unobeyed-stops u w q t z out hears still =
       let f = hears.0 in
       let ring : w.ring ≡ v.ring = ap (λ (j : TrackerView). j.ring) still.view ∙ ap (λ (j : TrackerView). j.ring) f.is in
@@ -118,7 +130,7 @@ module _ {S : Type 0} (m : ShellMeaning S) (r : Round S) (bytes taken piece back
       ((f.body, refl), sym g.stands.accepted ∙ f.answered, omega arith, leaves-as g.state v.ring w.ring s t g.stands.leaves ring hears.1, refl) (quiet z still.told)
 
   -- the answer to a command went out in part
-  answer-stops : (e : Result RoundEnd MediumFault) (u w : TrackerView) (q : Progress) (t : S) (z : Option Traffic) (out : List ℕ) → HearsSome m (nat_lt p.orders 16) v u piece n (hearing.Done heard.Answer) s t out → SendsAnswer (Some e) out p q y z → w ≡ u → (e ≡ Ok end.Broken → rose) → Ends m r rose e taken old w.ring t x z
+  answer-stops : (e : Result RoundEnd MediumFault) (u w : TrackerView) (q : Progress) (t : S) (z : Option Traffic) (out : List ℕ) → HearsSome m (nat_lt p.orders 16) v u piece n (hearing.Done heard.Answer) s t out → SendsAnswer (Some e) out p q y z → w ≡ u → (e ≡ Ok end.Broken → rose) → Ended e w.ring t z
   answer-stops (Ok (end.Done k)) u w q t z out hears sent same cause = absurd sent
   answer-stops (Ok end.Empty) u w q t z out hears sent same cause = absurd sent
   answer-stops (Ok end.Refused) u w q t z out hears sent same cause = absurd sent
@@ -134,14 +146,15 @@ module _ {S : Type 0} (m : ShellMeaning S) (r : Round S) (bytes taken piece back
       let Q : List ℕ → Type 0 = λ b. WritesPart b y z in
       let part = subst Q said sent.1 in
       let at = orders-on m r d old v w p q s t body g.stands view sent.0 f.4 in
-      inr (stops-at (Ok end.Broken) (order body) w.ring t z (take part.0 (writes m r d (order body))) (steps.1 ∙ ap (λ (i : DownValue). whole i (length (v.have ++ take n piece))) f.1)
-      ((sym g.stands.accepted ∙ f.2, omega arith), at.leaves, (part.0, part.1, refl), cause refl) part.2)
+      let st = stops-at (Ok end.Broken) (order body) w.ring t z (take part.0 (writes m r d (order body))) (steps.1 ∙ ap (λ (i : DownValue). whole i (length (v.have ++ take n piece))) f.1)
+      ((sym g.stands.accepted ∙ f.2, omega arith), at.leaves, (part.0, part.1, refl), cause refl) part.2 in
+      (st.0, inr st.1)
   answer-stops (Ok (end.WrongAnswer got)) u w q t z out hears sent same cause = absurd sent
   answer-stops (Ok end.TooManyCommands) u w q t z out hears sent same cause = absurd sent
   answer-stops (Err failed) u w q t z out hears sent same cause = absurd sent
 
   -- something else was heard
-  wrong-stops : (k : Got) (u w : TrackerView) (q : Progress) (t : S) (z : Option Traffic) (out : List ℕ) → HearsSome m (nat_lt p.orders 16) v u piece n (hearing.Done (heard.Wrong k)) s t out → IsQuiet u w p q y z → Ends m r rose (Ok (end.WrongAnswer k)) taken old w.ring t x z
+  wrong-stops : (k : Got) (u w : TrackerView) (q : Progress) (t : S) (z : Option Traffic) (out : List ℕ) → HearsSome m (nat_lt p.orders 16) v u piece n (hearing.Done (heard.Wrong k)) s t out → IsQuiet u w p q y z → Ended (Ok (end.WrongAnswer k)) w.ring t z
   wrong-stops (got.Login b) u w q t z out hears still =
       let steps = hears.0.steps in
       let f = steps.2 in
@@ -166,23 +179,26 @@ module _ {S : Type 0} (m : ShellMeaning S) (r : Round S) (bytes taken piece back
       let whole_rest : judge (down_rows d.accepted) 0 (v.have ++ (piece_now ++ back)) ≡ fault found.kind found.place = ap (down_verdict d.accepted) (sym (append_assoc v.have piece_now back)) ∙ stays in
       let unfinished : IsNotWhole (judge (down_rows d.accepted) 0 (v.have ++ (piece_now ++ back))) = subst (λ (k : Verdict DownValue). IsNotWhole k) (sym whole_rest) tt in
       let ring : w.ring ≡ v.ring = ap (λ (j : TrackerView). j.ring) still.view ∙ ap (λ (j : TrackerView). j.ring) steps.1 in
-      let all_taken : taken ≡ bytes ++ (piece_now ++ back) = split ∙ append_assoc bytes piece_now back in
-      let P : RoundState S → Type 0 = λ j. Leaves m r j old w.ring t in
-      record {
-        items = a.items;
-        rest = v.have ++ (piece_now ++ back);
-        reading = record {
-          is = ap (down_reading false) all_taken ∙ rest_grows (down_rows false) (down_rows true) (down_rows d.accepted) bytes (piece_now ++ back) v.have a.items down_begins a.reading a.place unfinished
-              ∙ ap (λ (i : List (Item DownValue)). record { items = i; rest = v.have ++ (piece_now ++ back) }) (append-nil a.items);
-          judged = ap (λ rows. judge rows 0 (v.have ++ (piece_now ++ back))) a.place ∙ whole_rest;
-        };
-        fits = a.fits;
-        leaves = subst P a.state (leaves-as d v.ring w.ring s t g.stands.leaves ring steps.2);
-        wire = moves_as (taken ++ []) (written m r a ++ []) taken (written m r a) x z (append-nil taken) (append-nil (written m r a)) (moves_then taken (written m r a) [] [] x y z g.wire (quiet z still.told));
-      }
+      let all_taken : taken ≡ bytes ++ (piece_now ++ back) = split ∙ append_assoc bytes piece_now back in (
+        d,
+        record {
+          items = a.items;
+          rest = v.have ++ (piece_now ++ back);
+          reading = record {
+            is = ap (down_reading false) all_taken ∙ rest_grows (down_rows false) (down_rows true) (down_rows d.accepted) bytes (piece_now ++ back) v.have a.items down_begins a.reading a.place unfinished
+                ∙ ap (λ (i : List (Item DownValue)). record { items = i; rest = v.have ++ (piece_now ++ back) }) (append-nil a.items);
+            judged = ap (λ rows. judge rows 0 (v.have ++ (piece_now ++ back))) a.place ∙ whole_rest;
+          };
+          fits = a.fits;
+          state = a.state;
+          waits = waiting m r bytes taken old v p s x y g;
+          leaves = leaves-as d v.ring w.ring s t g.stands.leaves ring steps.2;
+          wire = moves_as (taken ++ []) (written m r a ++ []) taken (written m r a) x z (append-nil taken) (append-nil (written m r a)) (moves_then taken (written m r a) [] [] x y z g.wire (quiet z still.told));
+        },
+      )
 
   -- the medium failed
-  medium-stops : (failed : MediumFault) (u w : TrackerView) (q : Progress) (t : S) (z : Option Traffic) (out : List ℕ) → HearsSome m (nat_lt p.orders 16) v u piece n (hearing.Done heard.MediumFault) s t out → IsQuiet u w p q y z → Ends m r rose (Err failed) taken old w.ring t x z
+  medium-stops : (failed : MediumFault) (u w : TrackerView) (q : Progress) (t : S) (z : Option Traffic) (out : List ℕ) → HearsSome m (nat_lt p.orders 16) v u piece n (hearing.Done heard.MediumFault) s t out → IsQuiet u w p q y z → Ended (Err failed) w.ring t z
   medium-stops failed u w q t z out hears still =
       let steps = hears.0.steps in
       let f = steps.2 in
@@ -205,12 +221,12 @@ module _ {S : Type 0} (m : ShellMeaning S) (r : Round S) (bytes taken piece back
       ((accepted, (omega arith), size), ap count size, subst P (sym ring) inside, refl) (quiet z still.told)
 
   -- a turn that ends the round
-  ends-by : (h : Hearing) (e : Result RoundEnd MediumFault) (u w : TrackerView) (q : Progress) (t : S) (z : Option Traffic) (out : List ℕ) → HearsSome m (nat_lt p.orders 16) v u piece n h s t out → Reacts h (Some e) u w out p q y z → (e ≡ Ok end.Broken → rose) → Ends m r rose e taken old w.ring t x z
+  ends-by : (h : Hearing) (e : Result RoundEnd MediumFault) (u w : TrackerView) (q : Progress) (t : S) (z : Option Traffic) (out : List ℕ) → HearsSome m (nat_lt p.orders 16) v u piece n h s t out → Reacts h (Some e) u w out p q y z → (e ≡ Ok end.Broken → rose) → Ended e w.ring t z
   ends-by (hearing.Done heard.More) e u w q t z out hears reacts cause = absurd reacts
   ends-by (hearing.Done heard.Accepted) e u w q t z out hears reacts cause =
       let steps = hears.0.steps in
       let f = steps.2 in
-      let P : S → Type 0 = λ k. Ends m r rose e taken old w.ring k x z in
+      let P : S → Type 0 = λ k. Ended e w.ring k z in
       subst P (sym f.3) (batch-stops e (answer 1) (accepts m r g.state) u w p q s z (steps.1 ∙ ap (λ (i : DownValue). whole i (length (v.have ++ take n piece))) f.0) (sym g.stands.accepted ∙ f.1, refl) refl refl
       (accepts-on m r g.state old v u p s g.stands f.2) reacts cause)
   ends-by (hearing.Done heard.Refused) (Ok (end.Done k)) u w q t z out hears reacts cause = absurd reacts
@@ -225,7 +241,7 @@ module _ {S : Type 0} (m : ShellMeaning S) (r : Round S) (bytes taken piece back
       let f = steps.2 in
       let size : length v.batch ≡ length g.state.batch = ap length g.stands.batch in
       let some = f.2 in
-      let P : S → Type 0 = λ j. Ends m r rose e taken old w.ring j x z in
+      let P : S → Type 0 = λ j. Ended e w.ring j z in
       subst P (sym f.6) (batch-stops e (count (length v.batch)) (counts m r g.state) u w (record p { done = p.done + k }) q s z (steps.1 ∙ ap (λ (i : DownValue). whole i (length (v.have ++ take n piece))) f.0)
       (sym g.stands.accepted ∙ f.1, (omega arith), size) refl refl (counts-on m r g.state old v u p k s g.stands f.3 f.4 f.5) reacts cause)
   ends-by (hearing.Done heard.Answer) e u w q t z out hears reacts cause = answer-stops e u w q t z out hears reacts.0 reacts.1 cause
@@ -234,7 +250,7 @@ module _ {S : Type 0} (m : ShellMeaning S) (r : Round S) (bytes taken piece back
   ends-by (hearing.Done (heard.Wrong k)) (Ok end.Refused) u w q t z out hears reacts cause = absurd reacts
   ends-by (hearing.Done (heard.Wrong k)) (Ok end.Broken) u w q t z out hears reacts cause = absurd reacts
   ends-by (hearing.Done (heard.Wrong k)) (Ok (end.WrongAnswer j)) u w q t z out hears reacts cause =
-      let P : Got → Type 0 = λ i. Ends m r rose (Ok (end.WrongAnswer i)) taken old w.ring t x z in subst P (sym reacts.1) (wrong-stops k u w q t z out hears reacts.0)
+      let P : Got → Type 0 = λ i. Ended (Ok (end.WrongAnswer i)) w.ring t z in subst P (sym reacts.1) (wrong-stops k u w q t z out hears reacts.0)
   ends-by (hearing.Done (heard.Wrong k)) (Ok end.TooManyCommands) u w q t z out hears reacts cause = absurd reacts
   ends-by (hearing.Done (heard.Wrong k)) (Err failed) u w q t z out hears reacts cause = absurd reacts
   ends-by (hearing.Done heard.MediumFault) (Ok (end.Done j)) u w q t z out hears reacts cause = absurd reacts
@@ -252,5 +268,22 @@ module _ {S : Type 0} (m : ShellMeaning S) (r : Round S) (bytes taken piece back
   ends-by hearing.Unobeyed (Ok end.TooManyCommands) u w q t z out hears reacts cause = unobeyed-stops u w q t z out hears reacts
   ends-by hearing.Unobeyed (Err failed) u w q t z out hears reacts cause = absurd reacts
 
-  pub ends-with : (e : Result RoundEnd MediumFault) (w : TrackerView) (q : Progress) (t : S) (z : Option Traffic) → Takes m (Some e) v w piece n s t p q y z → (e ≡ Ok end.Broken → rose) → Ends m r rose e taken old w.ring t x z
+  pub ends-with : (e : Result RoundEnd MediumFault) (w : TrackerView) (q : Progress) (t : S) (z : Option Traffic) → Takes m (Some e) v w piece n s t p q y z → (e ≡ Ok end.Broken → rose) → Ended e w.ring t z
   ends-with e w q t z takes cause = ends-by takes.hearing e takes.heard w q t z takes.out takes.hears takes.reacts cause
+
+-- The link's end, or a read that failed: all that was taken was looked at.
+pub ends-read : {S : Type 0} (m : ShellMeaning S) (r : Round S) (taken : List ℕ) (old : RingView) (v : TrackerView) (p : Progress) (s : S) (x y z : Option Traffic) (g : Goes m r taken taken old v p s x y) → Moves [] [] y z
+    → Rests m r short taken g.state old v.ring s x z
+ends-read m r taken old v p s x y z g still = record {
+  items = g.advances.items;
+  rest = v.have;
+  reading = record {
+    is = g.advances.reading;
+    judged = ap (λ rows. judge rows 0 v.have) g.advances.place ∙ ap (λ (b : Bool). down_verdict b v.have) (sym g.stands.accepted) ∙ (g.ready.known.talk g.ready.talking).waits;
+  };
+  fits = g.advances.fits;
+  state = g.advances.state;
+  waits = waiting m r taken taken old v p s x y g;
+  leaves = g.stands.leaves;
+  wire = moves_as (taken ++ []) (written m r g.advances ++ []) taken (written m r g.advances) x z (append-nil taken) (append-nil (written m r g.advances)) (moves_then taken (written m r g.advances) [] [] x y z g.wire still);
+}

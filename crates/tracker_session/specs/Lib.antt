@@ -10,3 +10,6 @@ pub mod Turns
 pub mod RoundStates
 pub mod Rounds
 pub mod RingRounds
+pub mod Sending
+pub mod Talks
+pub mod WholeRounds

@@ -37,3 +37,13 @@ pub record RoundsRing (result : Result RoundEnd MediumFault) (heard : ℕ) (rele
   pub down : IsErr result ↔ (new.down ≡ true)
   pub ends : IsRingEnd result old new
   pub counted : Counted (heard + length released) old.medium new.medium (new.down ≡ true)
+
+-- Done where as many batches were counted as could be sent, or no slot is open.
+abbrev pub IsDrained : Result RoundEnd MediumFault → ℕ → ℕ → RingView → Type 0
+IsDrained (Ok (end.Done n)) most heard new = (heard ≡ most) ⊎ (held_of new.slots ≡ [])
+IsDrained (Ok end.Empty) most heard new = Unit {0}
+IsDrained (Ok end.Refused) most heard new = Unit {0}
+IsDrained (Ok end.Broken) most heard new = Unit {0}
+IsDrained (Ok (end.WrongAnswer got)) most heard new = Unit {0}
+IsDrained (Ok end.TooManyCommands) most heard new = Unit {0}
+IsDrained (Err failed) most heard new = Unit {0}

@@ -91,6 +91,10 @@ module _ {S : Type 0} (m : ShellMeaning S) (r : Round S) where
   AllFit d [] = Unit {0}
   AllFit d (v ∷ vs) = Fits d v × AllFit (next d v) vs
 
+-- once the login was accepted a batch is outstanding
+abbrev pub IsWaiting : {S : Type 0} → RoundState S → Type 0
+IsWaiting d = d.accepted ≡ true → 0 < length d.batch
+
 -- the medium calls for the batches that were counted: one for each slot, and one for each batch
 abbrev pub release_calls : {S : Type 0} → RoundState S → ℕ
 release_calls d = d.frames + length d.closed

@@ -1,9 +1,10 @@
 -- How a round goes, and how it ends.
 use Rattle.std.specs.Prelude.{◌≡◌, ◌⊎◌, ℕ, ◌+◌, ◌<◌, ◌≤◌, true, false, List, [], ◌∷◌, ◌++◌, length, take, Option, Result, Ok, Err}
 use Rattle.avl_values.specs.declared.errors.MediumFault.{MediumFault}
+use Rattle.layout.specs.Bytes.{AreBytes}
 use Rattle.layout.specs.Rows.{Verdict, short, fault}
 use Rattle.item_streams.specs.Readers.{ReadsAs}
-use Rattle.item_streams.specs.Streams.{Item, next_rows, values}
+use Rattle.item_streams.specs.Streams.{Item, next_rows, reading_of, values, with_items}
 use Rattle.links.specs.Links.{Moves, Traffic, WritesPart}
 use Rattle.medium_model.specs.State.{Counted}
 use Rattle.frame_layout.specs.DownRows.{down_rows}
@@ -15,7 +16,7 @@ use Rattle.flash_ring.specs.Images.{MayClose}
 use Rattle.flash_ring.specs.Ring.{EachHolds, IsDurable, RingView}
 use Rattle.tracker_session.specs.Hearing.{IsWrong}
 use Rattle.tracker_session.specs.Responses.{ShellMeaning}
-use Rattle.tracker_session.specs.RoundStates.{AllFit, Fits, Round, RoundState, after, next, release_calls, slots_now, starts, text, writes}
+use Rattle.tracker_session.specs.RoundStates.{AllFit, Fits, IsWaiting, Round, RoundState, after, counts, next, release_calls, slots_now, starts, text, writes}
 use Rattle.tracker_session.specs.declared.heard.Got.TheVariants as got
 use Rattle.tracker_session.specs.declared.round_end.RoundEnd.{RoundEnd}
 use Rattle.tracker_session.specs.declared.round_end.RoundEnd.TheVariants as end
@@ -50,13 +51,25 @@ module _ {S : Type 0} (m : ShellMeaning S) (r : Round S) where
     pub counted : Counted (release_calls d + (length d.batch + 1)) old.medium new.medium (Unit {0})
     pub shell : t ≡ d.shell
 
-  -- It ends after its items, and what was taken after them is judged so.
-  pub record Rests (verdict : Verdict DownValue) (taken : List ℕ) (old new : RingView) (t : S) (x y : Option Traffic) : Type 0 where
+  -- Where it stands where it ends at an item: with the batch that this item counted, also where the medium failed as it was released.
+  abbrev pub stands_at : Result RoundEnd MediumFault → RoundState S → DownValue → RoundState S
+  stands_at (Ok (end.Done n)) d item = next m r d item
+  stands_at (Ok end.Empty) d item = d
+  stands_at (Ok end.Refused) d item = d
+  stands_at (Ok end.Broken) d item = next m r d item
+  stands_at (Ok (end.WrongAnswer g)) d item = d
+  stands_at (Ok end.TooManyCommands) d item = d
+  stands_at (Err failed) d item = counts m r d
+
+  -- It ends after its items, while it waits for another, and what was taken after them is judged so.
+  pub record Rests (verdict : Verdict DownValue) (taken : List ℕ) (d : RoundState S) (old new : RingView) (t : S) (x y : Option Traffic) : Type 0 where
     pub items : List (Item DownValue)
     pub rest : List ℕ
     pub reading : ReadsAs down_rows false taken items rest verdict
     pub fits : AllFit m r (starts r) (values items)
-    pub leaves : Leaves (after m r (starts r) (values items)) old new t
+    pub state : d ≡ after m r (starts r) (values items)
+    pub waits : IsWaiting d
+    pub leaves : Leaves d old new t
     pub wire : Moves taken (text m r (starts r) (values items)) x y
 
 -- `rose` says that the link's count rose in the round: only then is something written in part.
@@ -72,28 +85,32 @@ module _ {S : Type 0} (m : ShellMeaning S) (r : Round S) (rose : Type 0) where
   StopsAt (Ok end.Empty) d item old new t then_ = ⊥
   StopsAt (Err failed) d item old new t then_ = Fits m r d item × (item ≡ count (length d.batch)) × FailsInside m r d old new t × (then_ ≡ [])
 
-  -- It ends at an item: the bytes up to it are read as items from which the round goes on, and then it.
-  pub record Stops (end : Result RoundEnd MediumFault) (taken : List ℕ) (old new : RingView) (t : S) (x y : Option Traffic) : Type 0 where
+  -- It ends at an item for which it waited: the bytes up to it are read as items from which the round goes on, and then it. The bytes
+  -- that were taken in the same piece are read after it, and nothing follows from them.
+  pub record Stops (end : Result RoundEnd MediumFault) (taken : List ℕ) (d : RoundState S) (old new : RingView) (t : S) (x y : Option Traffic) : Type 0 where
     pub heard : List ℕ
     pub back : List ℕ
     pub split : taken ≡ heard ++ back
     pub items : List (Item DownValue)
     pub last : Item DownValue
     pub reading : down_reading false heard ≡ record { items = items ++ last ∷ []; rest = [] }
+    pub reads_on : down_reading false taken ≡ with_items (items ++ last ∷ []) (reading_of (down_rows true) (down_rows true) (length heard) back)
     pub fits : AllFit m r (starts r) (values items)
+    pub waits : IsWaiting (after m r (starts r) (values items))
+    pub state : d ≡ stands_at m r end (after m r (starts r) (values items)) last.value
     pub then_ : List ℕ
     pub stops : StopsAt end (after m r (starts r) (values items)) last.value old new t then_
     pub wire : Moves taken (text m r (starts r) (values items) ++ then_) x y
 
-  -- how a round ends, by the bytes taken
-  abbrev pub Ends : Result RoundEnd MediumFault → List ℕ → RingView → RingView → S → Option Traffic → Option Traffic → Type 0
-  Ends (Ok end.Broken) taken old new t x y = Rests m r short taken old new t x y ⊎ Stops (Ok end.Broken) taken old new t x y
-  Ends (Ok (end.WrongAnswer (got.Frame found))) taken old new t x y = Rests m r (fault found.kind found.place) taken old new t x y
-  Ends e taken old new t x y = Stops e taken old new t x y
+  -- how a round ends, by the bytes taken, and where it stands then
+  abbrev pub Ends : Result RoundEnd MediumFault → List ℕ → RoundState S → RingView → RingView → S → Option Traffic → Option Traffic → Type 0
+  Ends (Ok end.Broken) taken d old new t x y = Rests m r short taken d old new t x y ⊎ Stops (Ok end.Broken) taken d old new t x y
+  Ends (Ok (end.WrongAnswer (got.Frame found))) taken d old new t x y = Rests m r (fault found.kind found.place) taken d old new t x y
+  Ends e taken d old new t x y = Stops e taken d old new t x y
 
   -- One connection: nothing where no slot was open; else the login, or a part of it where the link failed, and then what follows from
-  -- the bytes taken.
-  pub data IsRound (old new : RingView) (t : S) (x y : Option Traffic) : Result RoundEnd MediumFault → Type 0 where
-    empty : held_of old.slots ≡ [] → new ≡ old → t ≡ r.shell → y ≡ x → IsRound old new t x y (Ok end.Empty)
-    cut : new ≡ old → t ≡ r.shell → WritesPart (login_of r.imei) x y → rose → IsRound old new t x y (Ok end.Broken)
-    talked : (result : Result RoundEnd MediumFault) (taken : List ℕ) (z : Option Traffic) → Moves [] (login_of r.imei) x z → Ends result taken old new t z y → IsRound old new t x y result
+  -- the bytes taken. At its end it stands here.
+  pub data IsRound (d : RoundState S) (old new : RingView) (t : S) (x y : Option Traffic) : Result RoundEnd MediumFault → Type 0 where
+    empty : held_of old.slots ≡ [] → d ≡ starts r → new ≡ old → t ≡ r.shell → y ≡ x → IsRound d old new t x y (Ok end.Empty)
+    cut : d ≡ starts r → new ≡ old → t ≡ r.shell → WritesPart (login_of r.imei) x y → rose → IsRound d old new t x y (Ok end.Broken)
+    talked : (result : Result RoundEnd MediumFault) (taken : List ℕ) (z : Option Traffic) → Moves [] (login_of r.imei) x z → AreBytes taken → Ends result taken d old new t z y → IsRound d old new t x y result

@@ -1,9 +1,10 @@
 //! One connection of a device.
 ghost use Rattle.std.specs.Prelude.{◌↔◌, ◌≡◌, ◌⊎◌, ◌+◌, ◌<◌, ◌≤◌, ◌^◌, ◌++◌, [], true, false, length, take, IfNone, Some, IsSome, ℕ, List, Ok};
 ghost use Rattle.avl_values.specs.Causes.{Rose};
+ghost use Rattle.layout.specs.Bytes.{AreBytes};
 ghost use Rattle.flash_ring.specs.Entries.{held_of};
 ghost use Rattle.flash_ring.specs.Ring.{IsDurable};
-ghost use Rattle.tracker_session.specs.RoundStates.{round_by, round_of};
+ghost use Rattle.tracker_session.specs.RoundStates.{RoundState, round_by, round_of};
 ghost use Rattle.tracker_session.specs.Rounds.{Ends, IsRound};
 ghost use Rattle.tracker_session.specs.Trackers.{IsSameDevice, silent};
 ghost use Rattle.tracker_session.specs.Turns.{Begins, BreaksWith, CanReact, IsBroken, IsReady, Lessens, Reacts, SendsAnswer, SendsBatch, Takes, records_left};
@@ -118,6 +119,7 @@ fn take_one<M: Medium, L: Link, S: Shell>(
     requires records { records_left tracker.old progress.old < 2 ^ 32 }
     ensures takes { Takes (record { says = S.says; obeyed = S.obeyed }) result.1 tracker.old tracker.new rest.now result.0 shell.old shell.new progress.old progress.new (L.state link.old).told (L.state link.new).told }
     ensures took { (0 < result.0) × (result.0 ≤ length rest.now) }
+    ensures bytes { AreBytes rest.now }
     ensures ready { IfNone result.1 (IsReady tracker.new) }
     ensures less { IfNone result.1 (Lessens tracker.old tracker.new progress.old progress.new) }
     ensures broken { IsBroken result.1 (L.state link.old) (L.state link.new) }
@@ -147,7 +149,7 @@ fn listen<M: Medium, L: Link, S: Shell>(
     requires ready { IsReady tracker.old }
     requires begins { Begins tracker.old progress.old }
     requires records { records_left tracker.old progress.old < 2 ^ 32 }
-    ensures ends { (taken : List ℕ) × Ends (record { says = S.says; obeyed = S.obeyed }) (round_of tracker.old progress.old shell.old) (Rose (L.state link.old).faults (L.state link.new).faults) result taken tracker.old.ring tracker.new.ring shell.new (L.state link.old).told (L.state link.new).told }
+    ensures ends { (taken : List ℕ) × (state : RoundState S) × AreBytes taken × Ends (record { says = S.says; obeyed = S.obeyed }) (round_of tracker.old progress.old shell.old) (Rose (L.state link.old).faults (L.state link.new).faults) result taken state tracker.old.ring tracker.new.ring shell.new (L.state link.old).told (L.state link.new).told }
     ensures broken { BreaksWith result (L.state link.old) (L.state link.new) }
     ensures same { IsSameDevice tracker.old tracker.new }
     ensures follows { L.follows link.old link.new }
@@ -183,9 +185,9 @@ pub fn connect<M: Medium, L: Link, S: Shell>(
     requires up { tracker.old.ring.down ≡ false }
     requires some { 0 < most }
     ensures silent { tracker.new ≡ silent (record tracker.old { ring = tracker.new.ring }) }
-    ensures round { IsRound (record { says = S.says; obeyed = S.obeyed }) (round_by tracker.old most shell.old) (Rose (L.state link.old).faults (L.state link.new).faults) tracker.old.ring tracker.new.ring shell.new (L.state link.old).told (L.state link.new).told result }
+    ensures round { (state : RoundState S) × IsRound (record { says = S.says; obeyed = S.obeyed }) (round_by tracker.old most shell.old) (Rose (L.state link.old).faults (L.state link.new).faults) state tracker.old.ring tracker.new.ring shell.new (L.state link.old).told (L.state link.new).told result }
     ensures empty { result ≡ Ok RoundEnd.Empty ↔ (held_of tracker.old.ring.slots ≡ []) }
-    ensures nothing { result ≡ Ok RoundEnd.Empty → (link.new ≡ link.old) × (shell.new ≡ shell.old) }
+    ensures nothing { result ≡ Ok RoundEnd.Empty → (link.new ≡ link.old) × (shell.new ≡ shell.old) × (tracker.new.ring ≡ tracker.old.ring) }
     ensures broken { BreaksWith result (L.state link.old) (L.state link.new) }
     ensures follows { L.follows link.old link.new }
 {

@@ -1,4 +1,4 @@
-ghost use Rattle.std.specs.Prelude.{◌≡◌, ◌↔◌, ℕ, List, ◌<◌, ◌≤◌, ◌^◌, [], true, false, length, OnOk, OnErr, IfErr, IfOk, IsOk, IsErrOf, IsSome};
+ghost use Rattle.std.specs.Prelude.{◌≡◌, ◌↔◌, ◌⊎◌, ℕ, ◌<◌, ◌≤◌, ◌^◌, [], true, false, length, OnOk, OnErr, IfErr, IfOk, IsOk, IsErrOf, IsSome};
 ghost use Rattle.avl_values.specs.Causes.{Rose};
 ghost use Rattle.avl_values.specs.Record.{Record};
 ghost use Rattle.avl_values.specs.Viewed.{record_of};
@@ -17,9 +17,8 @@ ghost use Rattle.flash_ring.specs.Slot.{IsFlash, slots_of};
 ghost use Rattle.tracker_session.specs.Batches.{frame_in, next_slots};
 ghost use Rattle.tracker_session.specs.Hearing.{Hears, HearsAnswer, HearsCount, HearsSome};
 ghost use Rattle.tracker_session.specs.Keeping.{LeavesLosses, LeavesRing, kept_as};
-ghost use Rattle.tracker_session.specs.RingRounds.{RoundsRing};
 ghost use Rattle.tracker_session.specs.RoundStates.{round_by};
-ghost use Rattle.tracker_session.specs.Rounds.{IsRound};
+ghost use Rattle.tracker_session.specs.WholeRounds.{IsWholeRound, TalksWhere};
 ghost use Rattle.tracker_session.specs.Turns.{BreaksWith};
 ghost use Rattle.tracker_session.specs.Trackers.{IsSameDevice, IsTracker, dialed, silent};
 
@@ -60,9 +59,8 @@ pub struct Tracker<M: Medium> {
 
 impl<M: Medium> Model for Tracker<M> {
     ghost use Rattle.std.specs.Prelude.{◌≡◌, true, false};
-    ghost use Rattle.tracker_session.specs.RingRounds.{RoundsRing};
     ghost use Rattle.tracker_session.specs.RoundStates.{round_by};
-    ghost use Rattle.tracker_session.specs.Rounds.{IsRound};
+    ghost use Rattle.tracker_session.specs.WholeRounds.{IsWholeRound, TalksWhere};
     ghost use Rattle.tracker_session.specs.Trackers.{IsTracker, TrackerView};
 
     ghost Value = { TrackerView };
@@ -152,7 +150,7 @@ impl<M: Medium> Tracker<M> {
         self.ring.reopen()
     }
 
-    /// Keeps a record. Where the ring is full, its oldest record is listed as lost first, and then given up. Whatever it returns,
+    /// Keeps a record. Where the ring is full, its oldest record is listed as lost first, and then given up. Whatever it answers,
     /// it ends the talk.
     pub fn keep<L: Losses>(&mut self, rec: &Rec, losses: &mut L) -> Result<Kept, KeepFault>
         requires up { self.old.ring.down ≡ false }
@@ -195,7 +193,7 @@ impl<M: Medium> Tracker<M> {
         write_login(self.imei)
     }
 
-    /// Writes the frame of the next batch over what was in `out`, and says how many records it has: 0, with `out` empty, exactly
+    /// Writes the frame of the next batch over what stood in `out`, and says how many records it has: 0, with `out` empty, exactly
     /// where no slot is open. The batch is outstanding then.
     pub fn next_batch(&mut self, out: &mut ArrayVec<u8, 1280>) -> u8
         requires talking { self.old.talking ≡ true }
@@ -313,8 +311,8 @@ impl<M: Medium> Tracker<M> {
     }
 
     /// One connection with at most `most` batches: it logs in, sends batches one after the other, each after the count of the one
-    /// before, and answers commands. What follows from an item is done before the next one is looked at. Whatever it returns, no talk
-    /// goes on.
+    /// before, and answers commands. What follows from an item is done before the next one is looked at, and what came in one piece
+    /// with the item at which it ends isn't looked at. Whatever it answers, no talk goes on.
     pub fn round<L: Link, S: Shell>(
         &mut self,
         link: &mut L,
@@ -324,10 +322,15 @@ impl<M: Medium> Tracker<M> {
         requires up { self.old.ring.down ≡ false }
         requires some { 0 < most }
         ensures silent { self.new ≡ silent (record self.old { ring = self.new.ring }) }
-        ensures round { IsRound (record { says = S.says; obeyed = S.obeyed }) (round_by self.old most shell.old) (Rose (L.state link.old).faults (L.state link.new).faults) self.old.ring self.new.ring shell.new (L.state link.old).told (L.state link.new).told result }
-        ensures ring { (heard : ℕ) × (released : List Record) × RoundsRing result heard released self.old.ring self.new.ring }
+        ensures round { IsWholeRound (record { says = S.says; obeyed = S.obeyed }) (round_by self.old most shell.old) (Rose (L.state link.old).faults (L.state link.new).faults) self.old.ring self.new.ring shell.new (L.state link.old).told (L.state link.new).told result }
+
+        // Over a link that tells its bytes, and whose count of faults didn't rise, the batches are told by their bodies, where no
+        // command was heard.
+        ensures talks { (Rose (L.state link.old).faults (L.state link.new).faults → ⊥) → (result ≡ Ok RoundEnd.Empty → ⊥) → TalksWhere self.old.imei most result self.old.ring self.new.ring (L.state link.old).told (L.state link.new).told }
+
         ensures empty { result ≡ Ok RoundEnd.Empty ↔ (held_of self.old.ring.slots ≡ []) }
-        ensures nothing { result ≡ Ok RoundEnd.Empty → (link.new ≡ link.old) × (shell.new ≡ shell.old) }
+        ensures nothing { result ≡ Ok RoundEnd.Empty → (link.new ≡ link.old) × (shell.new ≡ shell.old) × (self.new.ring ≡ self.old.ring) }
+        ensures drained { (n : ℕ) → result ≡ Ok (RoundEnd.Done n) → (most ≤ n) ⊎ (held_of self.new.ring.slots ≡ []) }
         ensures broken { BreaksWith result (L.state link.old) (L.state link.new) }
         ensures follows { L.follows link.old link.new }
     {
