@@ -38,7 +38,7 @@ settings_by e = option_map (λ d. d.settings) e
 record Enrols (devices : ℕ) (lines : List ScriptLine) : Type 0 where
   settings : (device : ℕ) → 1 ≤ device → device ≤ devices → settings_by (enrolled_in lines (imei_at device)) ≡ Some both
 
--- So many connections were made, and none is half-open.
+-- N connections were made, and none is half-open.
 record IsQuiet (rounds : ℕ) (lines : List ScriptLine) : Type 0 where
   count : connection_count lines ≡ rounds
   made : length (connections_of lines) ≡ rounds

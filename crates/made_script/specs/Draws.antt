@@ -53,7 +53,7 @@ drawn_event generator =
     let number = draw 16 generator in
     event_of number.0 number.1
 
--- a turn of one of so many devices
+-- a turn of one of N devices
 unfoldable pub drawn_turn : ℕ → Lcg → Drawn Turn
 drawn_turn devices generator =
     let device = draw devices generator in
@@ -77,7 +77,7 @@ drawn_turn devices generator =
       event.1,
     )
 
--- so many turns, one after another
+-- N turns, one after another
 unfoldable pub drawn_turns : ℕ → ℕ → Lcg → List Turn
 drawn_turns devices zero generator = []
 drawn_turns devices (suc turns) generator =

@@ -93,7 +93,7 @@ fix_of stand turn = record {
   values = record { items = turn.ignition ∷ turn.voltage ∷ [] };
 }
 
--- the lines of an event on a device, where so many `round` lines stand, its own among them
+-- the lines of an event on a device, where N `round` lines stand, its own among them
 abbrev pub event_lines : ℕ → ℕ → Event → List ScriptLine
 event_lines imei rounds (WholeRound piece) = Line.Round imei piece None None ∷ []
 event_lines imei rounds (CutRound piece up) = Line.Round imei piece (Some up) None ∷ Line.Late rounds None ∷ Line.Close rounds ∷ []
@@ -102,7 +102,7 @@ event_lines imei rounds (DeviceFuse calls tear) = Line.Fuse (Who.Device imei) ca
 event_lines imei rounds (ServerFuse calls tear) = Line.Fuse Who.Server calls tear ∷ []
 event_lines imei rounds Nothing = []
 
--- the lines of a turn, where the journey stands after it
+-- the lines of a turn, where the journey comes after it
 abbrev pub lines_at : Stand → Turn → List ScriptLine
 lines_at stand turn = Line.Fix (imei_at turn.device) (fix_of stand turn) ∷ event_lines (imei_at turn.device) stand.rounds turn.event
 

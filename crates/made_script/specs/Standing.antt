@@ -2,7 +2,7 @@
 use Rattle.std.specs.Prelude.{◌≡◌, ℕ, ◌+◌, ◌*◌, ◌<◌, ◌≤◌, length, slice_index_or}
 use Rattle.made_script.specs.Made.{Stand, parked}
 
--- So many turns were taken.
+-- N turns were taken.
 pub record IsOn (devices turns : ℕ) (stand : Stand) : Type 0 where
   pub time : stand.time ≡ 1560000000000 + 1000 * turns
   pub rounds : stand.rounds ≤ turns

@@ -66,7 +66,7 @@ fn event_of(generator: &mut Pcg32, number: u32) -> Event
     }
 }
 
-/// A turn of one of so many devices.
+/// A turn of one of N devices.
 #[tactic(auto, unfolding(crate::specs::Draws::drawn_turn))]
 pub fn draw_turn(generator: &mut Pcg32, devices: u32) -> Turn
     requires least { 1 ≤ devices }

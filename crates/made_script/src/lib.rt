@@ -1,4 +1,4 @@
-//! Scripts that are made from a seed, for trials of many devices and fixes. What is drawn stands in `specs/Draws.antt`, and the lines
+//! Scripts that are made from a seed, for trials of many devices and fixes. What is drawn is in `specs/Draws.antt`, and the lines
 //! that are made of it in `specs/Made.antt`.
 #![tactic(auto)]
 

@@ -1,11 +1,11 @@
 use medium_model::Tear;
 
-/// What stands in a made script after the fix of a turn.
+/// What is in a made script after the fix of a turn.
 #[derive(Clone, Copy)]
 pub enum Event {
     /// A round with no limit.
     WholeRound { piece: u32 },
-    /// A round of which only so many bytes up are delivered; then the others come late, and the connection is closed.
+    /// A round of which only N bytes up are delivered; then the others come late, and the connection is closed.
     CutRound { piece: u32, up: u32 },
     /// A power loss of the device.
     Power,

@@ -226,8 +226,20 @@ fn in_one_piece(alloc: Global, incoming: &[u8], most: u32) -> Option<(Seen, usiz
 fn bytes_in_the_same_piece_are_taken_and_not_looked_at(rt: HostRuntime) -> Result<(), Fail> {
     let alloc = rt.alloc();
     let rows: [(&[u8], u32, RoundEnd, usize, u16); 4] = [
-        (b"\x01\x00\x00\x00\x01\x00\x00\x00\x01\x07", 4, RoundEnd::Done(2), 115, 0),
-        (b"\x01\x00\x00\x00\x01\x00\x00\x00\x01", 1, RoundEnd::Done(1), 62, 1),
+        (
+            b"\x01\x00\x00\x00\x01\x00\x00\x00\x01\x07",
+            4,
+            RoundEnd::Done(2),
+            115,
+            0,
+        ),
+        (
+            b"\x01\x00\x00\x00\x01\x00\x00\x00\x01",
+            1,
+            RoundEnd::Done(1),
+            62,
+            1,
+        ),
         (b"\x00\x00\x00\x00\x01", 4, RoundEnd::Refused, 17, 2),
         (b"\x01\x00\x00\x00\x01\x00\x00", 4, RoundEnd::Broken, 115, 1),
     ];

@@ -86,7 +86,7 @@ is-packet r rs s =
     let each = batch-of r.codec (r ∷ rs) (λ x has. s.batch.one_codec x has ∙ sym own) s.sound in
     record { is = refl; each = each-bytes r.codec (r ∷ rs) each; some = omega (arith, length-map rs bytes_in); few = omega (arith, length-map (r ∷ rs) bytes_in, s.batch.few) }
 
--- Its body may stand in a frame up, and its records are read from it.
+-- Its body may be in a frame up, and its records are read from it.
 pub bodies-sent : (rs : List Record) → IsSoundBatch rs → AreSentBodies (bodies_of rs)
 bodies-sent [] s = tt
 bodies-sent (r ∷ rs) s =

@@ -7,7 +7,7 @@ use Rattle.record_layout.specs.declared.head.PacketHead.{PacketHead}
 use Rattle.frame_layout.specs.Items.{IsFrame, frame_of, login_of}
 use Rattle.frame_layout.specs.declared.body_kind.BodyKind.TheVariants.{Packet}
 
--- a data body that may stand in a frame up
+-- a data body that may be in a frame up
 pub record IsSentBody (body : List ℕ) : Type 0 where
   pub head : PacketHead
   pub frame : IsFrame Up (Packet head) body (frame_of body)

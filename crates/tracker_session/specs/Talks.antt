@@ -27,7 +27,7 @@ counts_by bodies = flat_map (λ b. count_bytes (length (records_of b))) bodies
 abbrev pub records_by : List (List ℕ) → List Record
 records_by bodies = flat_map records_of bodies
 
--- each record of each batch stands in a list
+-- each record of each batch is in a list
 abbrev pub AreDecided : List Record → List (List ℕ) → Type 0
 AreDecided listed [] = Unit {0}
 AreDecided listed (b ∷ bodies) = All (Contains listed) (records_of b) × AreDecided listed bodies
@@ -67,7 +67,7 @@ IsTalkEnd (Ok (end.WrongAnswer (got.Frame found))) taken bodies heard back = Wai
 IsTalkEnd (Ok end.TooManyCommands) taken bodies heard back = ⊥
 IsTalkEnd (Err failed) taken bodies heard back = HeardAll taken bodies heard back
 
--- The bytes that a link took in between, and that no command stands in them.
+-- The bytes that a link took in between, and that no command is in them.
 pub record HearsNoCommand (before after : Traffic) : Type 0 where
   pub taken : List ℕ
   pub written : List ℕ

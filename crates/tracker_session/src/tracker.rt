@@ -150,7 +150,7 @@ impl<M: Medium> Tracker<M> {
         self.ring.reopen()
     }
 
-    /// Keeps a record. Where the ring is full, its oldest record is listed as lost first, and then given up. Whatever it answers,
+    /// Keeps a record. Where the ring is full, its oldest record is listed as lost first, and then given up. Whatever it returns,
     /// it ends the talk.
     pub fn keep<L: Losses>(&mut self, rec: &Rec, losses: &mut L) -> Result<Kept, KeepFault>
         requires up { self.old.ring.down ≡ false }
@@ -193,7 +193,7 @@ impl<M: Medium> Tracker<M> {
         write_login(self.imei)
     }
 
-    /// Writes the frame of the next batch over what stood in `out`, and says how many records it has: 0, with `out` empty, exactly
+    /// Writes the frame of the next batch over what was in `out`, and says how many records it has: 0, with `out` empty, exactly
     /// where no slot is open. The batch is outstanding then.
     pub fn next_batch(&mut self, out: &mut ArrayVec<u8, 1280>) -> u8
         requires talking { self.old.talking ≡ true }
@@ -312,7 +312,7 @@ impl<M: Medium> Tracker<M> {
 
     /// One connection with at most `most` batches: it logs in, sends batches one after the other, each after the count of the one
     /// before, and answers commands. What follows from an item is done before the next one is looked at, and what came in one piece
-    /// with the item at which it ends isn't looked at. Whatever it answers, no talk goes on.
+    /// with the item at which it ends isn't looked at. Whatever it returns, no talk goes on.
     pub fn round<L: Link, S: Shell>(
         &mut self,
         link: &mut L,
