@@ -4,7 +4,6 @@ over and over; shows the time of the rounds alone, by record, and the ratio.
 
 Usage: bench/rounds.py [PROGRAM]; PROGRAM is the built one, crates/timings/out/timings by default (`rt run` in its folder builds it).
 Each round has the login, one frame of up to 42 records, its count, and their release. Wanted: twice the time for twice the records.
-More is seen, about three times: a selection looks at each open slot of the ring.
 """
 from measure import best, program, times
 
