@@ -1,14 +1,12 @@
 -- A connection that a line gives nothing, and one whose half-open time ends.
-use Rattle.std.proofs.Common.{◌≡◌, ◌≤◌, ◌<◌, inl, inr, ℕ, ◌+◌, ◌-◌, ◌*◌, Bool, true, false, List, [], ◌∷◌, ◌++◌, length, take, Option, if◌then◌else◌, refl, sym, ◌∙◌, ap, subst, append-nil, arith}
+use Rattle.std.proofs.Common.{◌≡◌, ◌≤◌, inl, inr, ℕ, ◌-◌, ◌*◌, Bool, true, false, List, [], ◌∷◌, ◌++◌, length, take, Option, if◌then◌else◌, refl, sym, ◌∙◌, ap, subst, append-nil, arith}
 use Rattle.std.proofs.lemmas.Bool.{false≢true, true≢false}
 use Rattle.avl_values.specs.Record.{Record}
 use Rattle.trial_model.specs.declared.outcome.ConnectionOutcome.{ConnectionOutcome}
-use Rattle.trial_model.specs.declared.outcome.DeviceEnd.{DeviceEnd}
-use Rattle.trial_model.specs.declared.outcome.DeviceEnd.TheVariants as End
 use Rattle.trial_model.specs.declared.outcome.ServerEnd.{ServerEnd}
 use Rattle.trial_model.specs.declared.outcome.ServerEnd.TheVariants as Server
 use Rattle.trial_model.specs.declared.script.ScriptLine.{ScriptLine}
-use Rattle.trial_model.specs.Answers.{IsServerEnd, MustFault, cover_at, counted_of, delivered_on, fresh_frames, is_fault}
+use Rattle.trial_model.specs.Answers.{IsServerEnd, MustFault, cover_at, delivered_on, fresh_frames, is_fault}
 use Rattle.trial_model.specs.Connections.{ConnectionHistory, closed, connections_of, given_by, restarted, up_to}
 use Rattle.trial_model.specs.Cover.{IsBelow}
 use Rattle.trial_wire.specs.Connections.{Connection, IsConnectionSound, IsEndNow, IsOwnEnd, cut_by_power, fed, shut}

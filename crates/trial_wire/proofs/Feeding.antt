@@ -1,6 +1,6 @@
 -- A connection on which a line gives bytes to its session, and a new one.
-use Rattle.std.proofs.Common.{◌≡◌, ◌≤◌, ◌<◌, inl, inr, ℕ, ◌+◌, ◌*◌, Bool, true, false, List, [], ◌∷◌, ◌++◌, length, take, Option, Some, refl, sym, ◌∙◌, ap, subst, take_all, arith}
-use Rattle.std.proofs.lemmas.Bool.{cases_lt, false≢true, true≢false}
+use Rattle.std.proofs.Common.{◌≡◌, ◌≤◌, ◌<◌, inl, inr, ℕ, ◌+◌, ◌*◌, Bool, true, false, List, [], ◌∷◌, ◌++◌, length, take, Option, refl, sym, ◌∙◌, ap, subst, take_all, arith}
+use Rattle.std.proofs.lemmas.Bool.{cases_lt, true≢false}
 use Rattle.avl_values.specs.Record.{Record}
 use Rattle.shelf.specs.Archive.{recs_for}
 use Rattle.shelf.specs.Shelf.{ShelfView}
@@ -12,7 +12,7 @@ use Rattle.trial_model.specs.declared.script.Who.TheVariants as Who
 use Rattle.trial_model.specs.Answers.{IsServerEnd, MayFault, fresh_frames, is_fault}
 use Rattle.trial_model.specs.Connections.{ConnectionHistory, connections_of, given_by, opened, server_of, up_to}
 use Rattle.trial_model.specs.Cover.{IsBelow, cover_on}
-use Rattle.trial_model.specs.Delivery.{delivered_of, frames_between, records_given}
+use Rattle.trial_model.specs.Delivery.{frames_between, records_given}
 use Rattle.trial_model.specs.Frames.{Frame, frames_of, frames_within, login_size}
 use Rattle.trial_model.specs.Logs.{answers_to}
 use Rattle.trial_model.specs.RecordLists.{AreIn}

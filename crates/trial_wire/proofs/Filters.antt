@@ -1,11 +1,11 @@
 -- The frames of a stream by their ends.
-use Rattle.std.proofs.Common.{◌≡◌, ◌≤◌, ◌<◌, inl, inr, ℕ, zero, suc, ◌+◌, ◌&&◌, nat_le, nat_lt, Bool, true, false, List, [], ◌∷◌, ◌++◌, length, take, drop, refl, sym, ◌∙◌, ap, subst, arith, if◌then◌else◌}
+use Rattle.std.proofs.Common.{◌≡◌, ◌≤◌, ◌<◌, inl, inr, ℕ, zero, suc, ◌+◌, ◌&&◌, nat_le, nat_lt, Bool, true, false, List, [], ◌∷◌, ◌++◌, length, take, drop, refl, sym, ◌∙◌, ap, arith, if◌then◌else◌}
 use Rattle.std.specs.List.{filter}
 use Rattle.std.proofs.lemmas.Bool.{false≢true}
 use Rattle.std.proofs.lemmas.Bool.Decides.{leb_tells}
 use Rattle.record_layout.specs.RecordsOf.{records_of}
 use Rattle.trial_model.specs.Delivery.{frames_between}
-use Rattle.trial_model.specs.Frames.{Frame, Stream, body_at, frames_from, frames_of, frames_within, has_frame, login_size, with_frame}
+use Rattle.trial_model.specs.Frames.{Frame, body_at, frames_from, frames_of, frames_within, has_frame, login_size, with_frame}
 
 -- Each ends after the one before it, and the first after this place.
 abbrev pub Rises : ℕ → List Frame → Type 0

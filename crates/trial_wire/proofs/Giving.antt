@@ -1,5 +1,5 @@
 -- A session that is given one item, and pieces.
-use Rattle.std.proofs.Common.{◌≡◌, ◌≤◌, ◌<◌, ◌+◌, ◌-◌, inl, inr, ℕ, Bool, true, false, not, List, [], ◌∷◌, ◌++◌, length, take, drop, Option, Some, None, IfNone, Ok, Err, refl, sym, ◌∙◌, ap, subst, append_assoc, append-nil, take-add, is_some, arith}
+use Rattle.std.proofs.Common.{◌≡◌, ◌+◌, ◌-◌, inl, ℕ, Bool, true, false, not, List, [], ◌∷◌, ◌++◌, length, take, drop, Option, Some, None, IfNone, Ok, Err, refl, sym, ◌∙◌, ap, subst, append_assoc, append-nil, take-add, is_some}
 use Rattle.std.proofs.lemmas.Bool.{false≢true, true≢false}
 use Rattle.std.proofs.lemmas.List.{take_rest}
 use Rattle.std.proofs.lemmas.Option.{none-some}
@@ -7,7 +7,7 @@ use Rattle.avl_values.specs.declared.fault.Fault.{Fault}
 use Rattle.layout.specs.Rows.{Rows, fault, judge}
 use Rattle.record_layout.specs.RecordsOf.{records_of}
 use Rattle.record_layout.specs.declared.head.PacketHead.{PacketHead}
-use Rattle.item_streams.specs.Readers.{Decided, HasRead, Pushed, Reader, added, broken, item, more}
+use Rattle.item_streams.specs.Readers.{Decided, Pushed, Reader, added, broken, item, more}
 use Rattle.item_streams.specs.Streams.{Item, Reading, next_rows, read_items}
 use Rattle.item_streams.proofs.ReaderSteps.{pushes_read, read_none}
 use Rattle.frame_layout.specs.Items.{count_bytes}
@@ -18,15 +18,14 @@ use Rattle.frame_layout.proofs.PlaceLaws.{up_place}
 use Rattle.frame_channel.specs.UpPushes.{lent_up}
 use Rattle.session_core.specs.declared.session.Step.TheVariants.{More, Login, Packet, Response, Broken}
 use Rattle.session_core.specs.Readings.{HadRead}
-use Rattle.session_core.specs.Sessions.{Heard, IsReady, SessionState, is_there, new_session}
+use Rattle.session_core.specs.Sessions.{Heard, SessionState, is_there, new_session}
 use Rattle.session_core.proofs.Hearing.{frame_stays}
-use Rattle.session_core.specs.Talks.{count_for}
 use Rattle.shelf.specs.Shelf.{Leaves, ShelfView}
 use Rattle.shelf.specs.declared.receipt.AdmitFault.TheVariants.{MediumFault}
 use Rattle.trial_model.specs.declared.outcome.ServerEnd.{ServerEnd}
 use Rattle.trial_model.specs.declared.outcome.ServerEnd.TheVariants as Server
-use Rattle.trial_model.specs.Frames.{Frame, counts_of}
-use Rattle.trial_server.specs.Serving.{IsAdmitted, IsRefused, Serves}
+use Rattle.trial_model.specs.Frames.{Frame}
+use Rattle.trial_server.specs.Serving.{IsAdmitted, IsRefused}
 use Rattle.trial_wire.specs.Hearing.{Gives, HasTaken, Hears, IsOver, Stands, as_frames, device_in, device_of, frame_by, imei_said, items_in, rest_in}
 use Rattle.trial_wire.specs.Hearing as hearing
 use Rattle.trial_wire.specs.Steps.{Greets, Stores}

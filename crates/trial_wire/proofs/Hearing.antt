@@ -1,6 +1,6 @@
 -- The items that a session hears, and what is true of it after one more.
-use Rattle.std.proofs.Common.{◌≡◌, ◌≤◌, ◌+◌, inl, inr, ℕ, Bool, true, false, List, [], ◌∷◌, ◌++◌, length, Some, refl, sym, ◌∙◌, ap, subst, append_assoc, append-nil, arith}
-use Rattle.std.proofs.lemmas.Bool.{false≢true, true≢false}
+use Rattle.std.proofs.Common.{◌≡◌, inl, inr, ℕ, Bool, true, false, List, [], ◌∷◌, ◌++◌, length, refl, sym, ◌∙◌, ap, subst, append_assoc, append-nil, arith}
+use Rattle.std.proofs.lemmas.Bool.{false≢true}
 use Rattle.std.proofs.lemmas.Grind.{flat_map-append}
 use Rattle.frame_layout.specs.Items.{count_bytes}
 use Rattle.frame_layout.specs.Values.{UpValue, login}
@@ -8,7 +8,7 @@ use Rattle.item_streams.specs.Streams.{Item, place_after}
 use Rattle.shelf.specs.Shelf.{ShelfView}
 use Rattle.trial_model.specs.declared.outcome.ServerEnd.TheVariants as Server
 use Rattle.trial_model.specs.Frames.{Frame, counts_of}
-use Rattle.trial_server.specs.Serving.{IsAdmitted, IsRefused, Serves}
+use Rattle.trial_server.specs.Serving.{IsRefused, Serves}
 use Rattle.trial_server.proofs.Admitting.{serves-up}
 use Rattle.trial_wire.specs.Hearing.{Hears, IsOver, answers, as_frames, device_in, failed, frame_by, items_in, refused}
 

@@ -1,14 +1,14 @@
 -- What the lines say of the server, one line more.
-use Rattle.std.proofs.Common.{◌≡◌, ◌⊎◌, ◌≤◌, ◌<◌, inl, inr, ℕ, ◌+◌, ◌*◌, Bool, true, false, List, [], ◌∷◌, ◌++◌, length, take, slice_get, Option, Some, None, refl, sym, ◌∙◌, ap, subst, arith, length-append, take_all}
+use Rattle.std.proofs.Common.{◌≡◌, ◌⊎◌, ◌≤◌, ◌<◌, inl, inr, ℕ, ◌+◌, ◌*◌, List, [], ◌∷◌, ◌++◌, length, take, slice_get, Some, None, refl, sym, ◌∙◌, ap, subst, arith, length-append, take_all}
 use Rattle.std.proofs.lemmas.Bool.{cases_lt}
 use Rattle.std.proofs.lemmas.List.{get_or_append_left, get_or_at, take-append-le}
 use Rattle.std.proofs.lemmas.List.Sums.{fold_push}
-use Rattle.std.proofs.lemmas.Option.{get_or_from_slice_get, slice_get-get_or, slice_get_within}
+use Rattle.std.proofs.lemmas.Option.{slice_get-get_or, slice_get_within}
 use Rattle.trial_model.specs.declared.outcome.ConnectionOutcome.{ConnectionOutcome}
 use Rattle.trial_model.specs.declared.script.ScriptLine.{ScriptLine}
 use Rattle.trial_model.specs.declared.script.Who.TheVariants as Who
-use Rattle.trial_model.specs.Answers.{IsGift, MayFault, MustFault, cover_at, delivered_on, fresh_frames}
-use Rattle.trial_model.specs.Connections.{ConnectionHistory, ServerHistory, connections_after, connections_of, given_by, server_after, server_of}
+use Rattle.trial_model.specs.Answers.{IsGift, MayFault, MustFault, fresh_frames}
+use Rattle.trial_model.specs.Connections.{ServerHistory, connections_after, connections_of, given_by, server_after, server_of}
 use Rattle.trial_model.specs.Cover.{IsBelow, cover_on}
 use Rattle.trial_model.specs.Delivery.{frames_between, records_given}
 

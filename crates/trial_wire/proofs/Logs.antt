@@ -1,7 +1,7 @@
 -- The log of a connection, as the session takes more and writes more.
-use Rattle.std.proofs.Common.{◌≡◌, ◌≤◌, ◌<◌, ◌↔◌, ◌⊎◌, inl, inr, ℕ, zero, suc, ◌+◌, ◌-◌, ◌*◌, ◌/◌, nat_le, min, Bool, true, false, Option, List, [], ◌∷◌, ◌++◌, length, take, drop, refl, sym, ◌∙◌, ap, subst, arith, if◌then◌else◌, length-append, length-take, length-take-le, take-take, take_all}
-use Rattle.std.specs.List.{All, Contains}
-use Rattle.std.proofs.lemmas.Bool.{cases_Bool, cases_lt, false≢true, true≢false}
+use Rattle.std.proofs.Common.{◌≡◌, ◌≤◌, ◌<◌, ◌↔◌, ◌⊎◌, inl, inr, ℕ, ◌+◌, ◌-◌, ◌*◌, ◌/◌, min, Bool, true, false, Option, List, [], ◌∷◌, ◌++◌, length, take, drop, refl, sym, ◌∙◌, ap, subst, arith, if◌then◌else◌, length-append, length-take, length-take-le, take-take, take_all}
+use Rattle.std.specs.List.{Contains}
+use Rattle.std.proofs.lemmas.Bool.{cases_lt}
 use Rattle.std.proofs.lemmas.Bool.Decides.{leb_tells}
 use Rattle.std.proofs.lemmas.Grind.{flat_map-append}
 use Rattle.std.proofs.lemmas.List.{take-append-drop, take-append-le}
@@ -13,8 +13,7 @@ use Rattle.trial_model.specs.declared.outcome.ConnectionOutcome.{ConnectionOutco
 use Rattle.trial_model.specs.declared.outcome.DeviceEnd.{DeviceEnd}
 use Rattle.trial_model.specs.declared.outcome.DeviceEnd.TheVariants as End
 use Rattle.trial_model.specs.declared.outcome.ServerEnd.{ServerEnd}
-use Rattle.trial_model.specs.declared.outcome.ServerEnd.TheVariants as Server
-use Rattle.trial_model.specs.Answers.{HasDeviceEnd, IsDone, LacksAnswer, counted_of, is_fault}
+use Rattle.trial_model.specs.Answers.{HasDeviceEnd, IsDone, counted_of, is_fault}
 use Rattle.trial_model.specs.Delivery.{delivered_of, frames_between, heard_bytes, heard_of}
 use Rattle.trial_model.specs.Frames.{Frame, counts_of, frames_of, frames_within, login_size, records_in}
 use Rattle.trial_model.specs.Logs.{HasFewFrames, IsSent, IsWholeStream, answers_to}

@@ -1,19 +1,17 @@
 -- A wire's calls, of its state.
-use Rattle.std.proofs.Common.{◌≡◌, ◌≤◌, ◌<◌, ◌+◌, ◌-◌, inl, inr, ℕ, Bool, true, false, List, [], ◌∷◌, ◌++◌, length, take, drop, min, Option, Some, None, Result, Ok, Err, IfNone, IsNone, OnOk, OnErr, is_err, refl, sym, ◌∙◌, ap, subst, append-nil, take-add, take_at, take-take, length-take-le, length-drop, arith}
+use Rattle.std.proofs.Common.{◌≡◌, ◌≤◌, ◌+◌, ◌-◌, ℕ, true, false, List, [], ◌++◌, length, take, drop, Option, Some, None, Result, Ok, Err, IfNone, IsNone, OnOk, OnErr, is_err, refl, sym, ◌∙◌, ap, subst, append-nil, take-add, take_at, take-take, length-take-le, length-drop, arith}
 use Rattle.std.proofs.lemmas.Bool.{false≢true, true≢false}
 use Rattle.std.proofs.lemmas.List.{take-append-le}
-use Rattle.frame_layout.specs.Values.{UpValue}
-use Rattle.item_streams.specs.Streams.{Item}
 use Rattle.links.specs.Going.{same_traffic}
 use Rattle.links.specs.Links.{Traffic, with_more}
 use Rattle.session_core.specs.declared.known.Known.{Known}
 use Rattle.session_core.specs.Knowing.{knows}
-use Rattle.session_core.specs.Sessions.{SessionState, new_session}
+use Rattle.session_core.specs.Sessions.{SessionState}
 use Rattle.shelf.specs.Shelf.{ShelfView}
 use Rattle.trial_model.specs.declared.outcome.ServerEnd.{ServerEnd}
 use Rattle.trial_model.specs.Connections.{up_to}
 use Rattle.trial_wire.specs.Hearing.{Gives, HasTaken, Hears, Stands, items_in}
-use Rattle.trial_wire.specs.WireLinks.{Follows, IsLive, IsWire, Passes, WireState, new_wire}
+use Rattle.trial_wire.specs.WireLinks.{Follows, IsWire, Passes, WireState, new_wire}
 use Rattle.trial_wire.proofs.Giving.{new-taken}
 
 pub up_to-least : (limit : Option ℕ) (n : ℕ) → up_to limit n ≤ n

@@ -1,10 +1,9 @@
 -- What a session reads of what a device sent, and what frames stand there: they are the same.
-use Rattle.std.proofs.Common.{◌≡◌, ◌≤◌, ◌<◌, inl, inr, ℕ, zero, suc, ◌+◌, ◌^◌, ◌&&◌, nat_le, cond, Bool, true, false, List, [], ◌∷◌, ◌++◌, length, take, drop, Some, refl, sym, ◌∙◌, ap, subst, arith, append_assoc, append-nil, length-append, take_at, drop_at, length-take-le}
+use Rattle.std.proofs.Common.{◌≡◌, ◌≤◌, ◌<◌, inl, inr, ℕ, zero, suc, ◌+◌, ◌^◌, ◌&&◌, nat_le, cond, Bool, true, false, List, [], ◌∷◌, ◌++◌, length, take, drop, refl, sym, ◌∙◌, ap, subst, arith, append_assoc, length-append, take_at, drop_at, length-take-le}
 use Rattle.std.specs.Prelude.{nat_eq}
 use Rattle.std.specs.Int.{to_be_bytes, w16}
 use Rattle.std.specs.List.{filter, flat_map, starts_with}
 use Rattle.std.specs.Str.{bytes_eq}
-use Rattle.std.proofs.lemmas.Bool.{cases_lt, false≢true}
 use Rattle.std.proofs.lemmas.Bool.Decides.{leb_tells}
 use Rattle.std.proofs.lemmas.List.{take-append-drop}
 use Rattle.std.proofs.lemmas.Nat.{from_be_bytes-to_be_bytes_4}
@@ -12,13 +11,13 @@ use Rattle.std.proofs.lemmas.Slice.Eq.{bytes_eq-Decides}
 use Rattle.avl_values.specs.Imei.{decimal_places}
 use Rattle.avl_values.specs.declared.fault.FaultKind.{FaultKind}
 use Rattle.crc_field.specs.Crc.{crc_of}
-use Rattle.layout.specs.Rows.{Rows, Verdict, fault, judge, short, whole}
+use Rattle.layout.specs.Rows.{Verdict, fault, judge, short, whole}
 use Rattle.record_layout.specs.RecordsOf.{records_of}
 use Rattle.record_layout.proofs.BodyLaws.{body_judged}
 use Rattle.item_streams.specs.Streams.{Item, IsNotWhole, Reading, ended_by, next_rows, place_after, reading_of}
 use Rattle.item_streams.proofs.StreamLaws.{fault_ends, front_read, nothing_read, rows_begin}
 use Rattle.item_streams.proofs.Ending.{ends_inside}
-use Rattle.frame_layout.specs.Items.{IsLogin, frame_of, login_of}
+use Rattle.frame_layout.specs.Items.{frame_of, login_of}
 use Rattle.frame_layout.specs.Readings.{up_reading}
 use Rattle.frame_layout.specs.UpRows.{up_rows}
 use Rattle.frame_layout.specs.Values.{UpValue, login, packet}
@@ -26,7 +25,7 @@ use Rattle.frame_layout.proofs.Lengths.{starts_short_up}
 use Rattle.frame_layout.proofs.UpLaws.{up_whole}
 use Rattle.session_core.proofs.Reading.{up_stream}
 use Rattle.tracker_session.specs.Sending.{AreSentBodies, IsSentBody, stream_up}
-use Rattle.trial_model.specs.Frames.{Frame, Stream, body_at, frames_from, frames_of, frames_within, has_frame, is_packet, is_whole, login_size, stream_of}
+use Rattle.trial_model.specs.Frames.{Frame, Stream, body_at, frames_from, frames_within, has_frame, is_packet, is_whole, login_size, stream_of}
 use Rattle.trial_model.specs.Answers.{last_end}
 use Rattle.trial_wire.specs.Hearing.{as_frames, items_in, rest_in}
 

@@ -1,5 +1,5 @@
 -- Both halves of a connection: what the session took and wrote, with what the device sent and heard.
-use Rattle.std.proofs.Common.{◌≡◌, ◌≤◌, ◌<◌, inl, inr, ℕ, zero, suc, ◌+◌, ◌-◌, ◌*◌, ◌/◌, ◌^◌, ◌==◌, Bool, true, false, List, [], ◌∷◌, ◌++◌, length, take, sum, Option, Some, None, if◌then◌else◌, refl, sym, ◌∙◌, ap, subst, arith, append-nil, length-append, length-take, length-take-le, take_all}
+use Rattle.std.proofs.Common.{◌≡◌, ◌≤◌, ◌<◌, inl, inr, ℕ, zero, suc, ◌+◌, ◌-◌, ◌*◌, ◌/◌, ◌^◌, ◌==◌, Bool, true, false, List, [], ◌∷◌, ◌++◌, length, take, sum, Option, if◌then◌else◌, refl, sym, ◌∙◌, ap, subst, arith, length-append, length-take, length-take-le, take_all}
 use Rattle.std.proofs.lemmas.List.{append_cancel_left}
 use Rattle.std.proofs.lemmas.Bool.{cases_lt, false≢true, true≢false}
 use Rattle.avl_values.specs.Record.{Record}
@@ -19,9 +19,8 @@ use Rattle.trial_model.specs.Frames.{Frame, Stream, frames_of, login_size}
 use Rattle.trial_model.specs.Logs.{HasFewFrames, IsSent, IsWholeStream}
 use Rattle.trial_model.specs.Script.{Opening}
 use Rattle.trial_server.specs.Serving.{Serves}
-use Rattle.trial_wire.specs.Connections.{HasFrame, IsEndBy, IsFed, IsHeard, IsOwnEnd, IsRounded, fed}
-use Rattle.trial_wire.specs.Hearing.{Hears, IsOver, Stands, as_frames, end_now, items_in, rest_in}
-use Rattle.trial_wire.specs.Sending.{IsSentStream}
+use Rattle.trial_wire.specs.Connections.{HasFrame, IsFed, IsHeard, IsOwnEnd, IsRounded, fed}
+use Rattle.trial_wire.specs.Hearing.{Hears, IsOver, as_frames, end_now, items_in, rest_in}
 use Rattle.trial_wire.proofs.Filters.{within-first, within-parts}
 use Rattle.trial_wire.proofs.Living.{HasEnded, all-frames, going-end, going-heard, going-serves, going-split, over-ended}
 use Rattle.trial_wire.proofs.Logs.{counts-length}

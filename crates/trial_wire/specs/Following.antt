@@ -1,5 +1,5 @@
 -- The laws of a wire's calls: none, one after the other, and what they tell.
-use Rattle.std.proofs.Common.{◌≡◌, List, ℕ, [], ◌++◌, take, Some, refl, sym, ap, ◌∙◌, append_assoc, append-nil, arith}
+use Rattle.std.proofs.Common.{[], ◌++◌, take, refl, sym, ap, ◌∙◌, append_assoc, append-nil, arith}
 use Rattle.links.specs.Going.{same_traffic}
 use Rattle.links.specs.Links.{IsLater}
 use Rattle.trial_wire.specs.WireLinks.{Follows, WireState, link_state}

@@ -4,7 +4,7 @@ use Rattle.std.specs.List.{flat_map}
 use Rattle.avl_values.specs.declared.fault.Fault.{Fault}
 use Rattle.layout.specs.Rows.{fault, judge}
 use Rattle.record_layout.specs.RecordsOf.{records_of}
-use Rattle.item_streams.specs.Streams.{Item, next_rows, place_after, values}
+use Rattle.item_streams.specs.Streams.{Item, next_rows, place_after}
 use Rattle.frame_layout.specs.Readings.{up_reading}
 use Rattle.frame_layout.specs.UpRows.{up_rows}
 use Rattle.frame_layout.specs.Values.{UpValue, login, packet, response}

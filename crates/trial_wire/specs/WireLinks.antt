@@ -1,5 +1,5 @@
 -- The wire of a round as contracts see it: a link whose far end is the server's session over its archive.
-use Rattle.std.specs.Prelude.{◌≡◌, ◌≤◌, ◌<◌, nat_le, ℕ, List, [], ◌++◌, length, take, Option, Some, None, IfNone}
+use Rattle.std.specs.Prelude.{◌≡◌, ◌≤◌, nat_le, ℕ, List, [], ◌++◌, length, take, Option, Some, None, IfNone}
 use Rattle.frame_layout.specs.Values.{UpValue}
 use Rattle.item_streams.specs.Streams.{Item}
 use Rattle.links.specs.Links.{LinkState}

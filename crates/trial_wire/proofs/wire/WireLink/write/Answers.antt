@@ -1,4 +1,4 @@
-use Rattle.std.proofs.Common.{◌≡◌, ◌≤◌, ◌++◌, length, subst, sym, take, ◌∙◌, arith}
+use Rattle.std.proofs.Common.{length, subst, sym, take, arith}
 use Rattle.trial_wire.specs.WireLinks.{Follows, Passes, WireState}
 use Rattle.trial_wire.proofs.Passing.{failed-follows, on-err, on-ok, passed-follows, sent-follows, up_to-least}
 use Rattle.trial_wire.proofs.Giving.{goes-on}
