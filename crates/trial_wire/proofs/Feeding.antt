@@ -56,7 +56,7 @@ module _ (lines : List ScriptLine) (later : List ConnectionOutcome) (l : ScriptL
       let order : a < c.up_given = between-some a c.up_given (frames_of c.up) some in
       may-new lines l n c (omega (arith, order, gave_before, gave_now))
       (subst (λ (z : ℕ × ℕ). IsBelow (cover_on Who.Server (server_of lines).fuse l) (4 * length (frames_between z.0 z.1 c.up))) (λ i. (sym gave_before i, sym gave_now i))
-          (serves-may (records_given c.imei (connections_of lines) later) c.imei failed (frames_between a c.up_given c.up) s t (cover_on Who.Server (server_of lines).fuse l) known_records left serves bad))
+      (serves-may (records_given c.imei (connections_of lines) later) c.imei failed (frames_between a c.up_given c.up) s t (cover_on Who.Server (server_of lines).fuse l) known_records left serves bad))
 
   pub must-now : IsBelow (cover_on Who.Server (server_of lines).fuse l)
       (4 * fresh_frames (records_given c.imei (connections_of lines) later) (frames_between (given_by lines n (length c.up)) (given_by (lines ++ l ∷ []) n (length c.up)) c.up)) → failed ≡ true
@@ -119,8 +119,8 @@ fed-sound lines logs later l known cover earlier n h w more_allowed failed b mor
       };
       server = record {
         says = says-new (lines ++ l ∷ []) n (record h { allowed = more_allowed }) c going server f.end
-          (λ bad. may-now lines later l n w.log.up_given c failed s t before now f.serves known_records armed (sym f.fault ∙ bad))
-          (whole-now lines n h w.log w.log.server open_now.1 sound.server.says);
+            (λ bad. may-now lines later l n w.log.up_given c failed s t before now f.serves known_records armed (sym f.fault ∙ bad))
+            (whole-now lines n h w.log w.log.server open_now.1 sound.server.says);
         unknown = heard-unknown known c f.heard;
         fault = λ i line must. elim (must-cases lines l n later c i line must) [
           | inl (order, old) ↦ absurd (true≢false (sym (sound.server.fault i line (must-same lines logs later n w.log i line same old)) ∙ good))

@@ -19,7 +19,7 @@ rises-from (suc most) place bytes = split (rises-from most (place + (12 + length
   where
     split : Rises (place + (12 + length (body_at bytes))) (frames_from most (place + (12 + length (body_at bytes))) (drop (12 + length (body_at bytes)) bytes)).frames
         → (b : Bool) → Rises place (if b then with_frame (record { end = place + (12 + length (body_at bytes)); records = records_of (body_at bytes) })
-            (frames_from most (place + (12 + length (body_at bytes))) (drop (12 + length (body_at bytes)) bytes)) else record { frames = []; rest = bytes }).frames
+        (frames_from most (place + (12 + length (body_at bytes))) (drop (12 + length (body_at bytes)) bytes)) else record { frames = []; rest = bytes }).frames
     split later true = (omega arith, later)
     split later false = tt
 
@@ -41,19 +41,19 @@ parts place a b [] rises order = refl
 parts place a b (f ∷ fs) rises order =
     let rest = parts f.end a b fs rises.1 order in
     elim (leb_tells f.end a) as (λ _. filter (λ f. nat_le f.end b) (f ∷ fs) ≡ filter (λ f. nat_le f.end a) (f ∷ fs) ++ filter (λ f. nat_lt a f.end && nat_le f.end b) (f ∷ fs)) [
-  | inl early ↦
-      let at_b : nat_le f.end b ≡ true = (elim (leb_tells f.end b) as (λ _. nat_le f.end b ≡ true) [ inl yes_b ↦ yes_b.0 | inr no_b ↦ absurd (let p = early.1 in let q = no_b.1 in omega arith) ]) in
-      let not_a : nat_lt a f.end ≡ false = (elim (leb_tells (suc a) f.end) as (λ _. nat_lt a f.end ≡ false) [ inl yes_a ↦ absurd (let p = early.1 in let q = yes_a.1 in omega arith) | inr no_a ↦ no_a.0 ]) in
-      rw (early.0, at_b, not_a) (ap (λ l. f ∷ l) rest)
-  | inr late ↦
-      let after_a : nat_lt a f.end ≡ true = (elim (leb_tells (suc a) f.end) as (λ _. nat_lt a f.end ≡ true) [ inl yes_a ↦ yes_a.0 | inr no_a ↦ absurd (let p = late.1 in let q = no_a.1 in omega arith) ]) in
-      let none : filter (λ f. nat_le f.end a) fs ≡ [] = none-low f.end a fs rises.1 (let p = late.1 in omega arith) in
-      let only : filter (λ f. nat_le f.end b) fs ≡ filter (λ f. nat_lt a f.end && nat_le f.end b) fs = rest ∙ ap (λ l. l ++ filter (λ f. nat_lt a f.end && nat_le f.end b) fs) none in
-      elim (leb_tells f.end b) as (λ _. filter (λ f. nat_le f.end b) (f ∷ fs) ≡ filter (λ f. nat_le f.end a) (f ∷ fs) ++ filter (λ f. nat_lt a f.end && nat_le f.end b) (f ∷ fs)) [
-    | inl yes_b ↦ rw (late.0, after_a, yes_b.0, none) (ap (λ l. f ∷ l) only)
-    | inr no_b ↦ rw (late.0, after_a, no_b.0, none) only
-  ]
-]
+      | inl early ↦
+          let at_b : nat_le f.end b ≡ true = (elim (leb_tells f.end b) as (λ _. nat_le f.end b ≡ true) [ inl yes_b ↦ yes_b.0 | inr no_b ↦ absurd (let p = early.1 in let q = no_b.1 in omega arith) ]) in
+          let not_a : nat_lt a f.end ≡ false = (elim (leb_tells (suc a) f.end) as (λ _. nat_lt a f.end ≡ false) [ inl yes_a ↦ absurd (let p = early.1 in let q = yes_a.1 in omega arith) | inr no_a ↦ no_a.0 ]) in
+          rw (early.0, at_b, not_a) (ap (λ l. f ∷ l) rest)
+      | inr late ↦
+          let after_a : nat_lt a f.end ≡ true = (elim (leb_tells (suc a) f.end) as (λ _. nat_lt a f.end ≡ true) [ inl yes_a ↦ yes_a.0 | inr no_a ↦ absurd (let p = late.1 in let q = no_a.1 in omega arith) ]) in
+          let none : filter (λ f. nat_le f.end a) fs ≡ [] = none-low f.end a fs rises.1 (let p = late.1 in omega arith) in
+          let only : filter (λ f. nat_le f.end b) fs ≡ filter (λ f. nat_lt a f.end && nat_le f.end b) fs = rest ∙ ap (λ l. l ++ filter (λ f. nat_lt a f.end && nat_le f.end b) fs) none in
+          elim (leb_tells f.end b) as (λ _. filter (λ f. nat_le f.end b) (f ∷ fs) ≡ filter (λ f. nat_le f.end a) (f ∷ fs) ++ filter (λ f. nat_lt a f.end && nat_le f.end b) (f ∷ fs)) [
+            | inl yes_b ↦ rw (late.0, after_a, yes_b.0, none) (ap (λ l. f ∷ l) only)
+            | inr no_b ↦ rw (late.0, after_a, no_b.0, none) only
+          ]
+    ]
 
 -- those up to a place stand first
 firsts : (place n : ℕ) (fs : List Frame) → Rises place fs → filter (λ f. nat_le f.end n) fs ≡ take (length (filter (λ f. nat_le f.end n) fs)) fs

@@ -130,7 +130,7 @@ module _ (known : ℕ → Bool) (bytes piece : List ℕ) (n : ℕ) (old mid : Se
         stands = λ before start hears.
             let heard : Hears known before start (f.first ∷ f.others) down s = subst (λ is. Hears known before start is down s) f.are hears in
             subst (λ (z : List (Item UpValue) × List ℕ). Hears known before start z.0 z.1 s) (λ i. (sym items i, append-nil down i))
-                (hears-item known before start f.first f.others x [] down s s refl (refl, refl) heard);
+            (hears-item known before start f.first f.others x [] down s s refl (refl, refl) heard);
       }
 
   -- a login
@@ -160,7 +160,7 @@ module _ (known : ℕ → Bool) (bytes piece : List ℕ) (n : ℕ) (old mid : Se
         stands = λ before start hears.
             let heard : Hears known before start [] old_down s = subst (λ is. Hears known before start is old_down s) none hears in
             subst (λ (z : List (Item UpValue) × List ℕ). Hears known before start z.0 z.1 s) (λ i. (sym items i, sym down i))
-                (hears-login known before start who (length (bytes ++ take n piece)) old_down s friend heard);
+            (hears-login known before start who (length (bytes ++ take n piece)) old_down s friend heard);
       })
       split p none items (steps.refused stranger down end_is) = subst (λ e. Gives known bytes piece n after s s old_down new_down e) (sym end_is) (record {
         wrote = 0 ∷ [];
@@ -169,7 +169,7 @@ module _ (known : ℕ → Bool) (bytes piece : List ℕ) (n : ℕ) (old mid : Se
         stands = λ before start hears.
             let heard : Hears known before start [] old_down s = subst (λ is. Hears known before start is old_down s) none hears in
             subst (λ d. IsOver known before start (bytes ++ take n piece) d s (Server.Unknown who)) (sym down)
-                (over-refused known before start who (length (bytes ++ take n piece)) (bytes ++ take n piece) old_down s stranger items refl heard);
+            (over-refused known before start who (length (bytes ++ take n piece)) (bytes ++ take n piece) old_down s stranger items refl heard);
       })
       split p none items (steps.starved down end_is) = subst (λ e. Gives known bytes piece n after s s old_down new_down e) (sym end_is) (record { wrote = []; writes = down ∙ sym (append-nil old_down); taken = tt; stands = λ before start hears. hearing.starved refl })
 
@@ -205,8 +205,8 @@ module _ (known : ℕ → Bool) (bytes piece : List ℕ) (n : ℕ) (old mid : Se
             stands = λ before start hears.
                 let heard : Hears known before start (f.first ∷ f.others) old_down s = subst (λ is. Hears known before start is old_down s) f.are hears in
                 subst (λ (z : List (Item UpValue) × List ℕ). Hears known before start z.0 z.1 t)
-                    (λ i. (sym items i, (ap (λ c. old_down ++ c) (append-nil (count_bytes (length (records_of mid.reader.body)))) ∙ sym down) i))
-                    (hears-item known before start f.first f.others x (frame ∷ []) old_down s t refl (inl (t, admitted, (refl, refl))) heard);
+                (λ i. (sym items i, (ap (λ c. old_down ++ c) (append-nil (count_bytes (length (records_of mid.reader.body)))) ∙ sym down) i))
+                (hears-item known before start f.first f.others x (frame ∷ []) old_down s t refl (inl (t, admitted, (refl, refl))) heard);
           })
       split head p f items device is (steps.failed faults leaves down end_is) =
           let x : Item UpValue = record { value = packet head mid.reader.body; end = length (bytes ++ take n piece) } in
@@ -219,7 +219,7 @@ module _ (known : ℕ → Bool) (bytes piece : List ℕ) (n : ℕ) (old mid : Se
             stands = λ before start hears.
                 let heard : Hears known before start (f.first ∷ f.others) old_down s = subst (λ is. Hears known before start is old_down s) f.are hears in
                 subst (λ d. IsOver known before start (bytes ++ take n piece) d t (Server.MediumFault faults)) (sym down)
-                    (over-failed known before start faults f.first f.others x frame (bytes ++ take n piece) old_down s t refl r items refl heard);
+                (over-failed known before start faults f.first f.others x frame (bytes ++ take n piece) old_down s t refl r items refl heard);
           })
       split head p f items device is (steps.was_down faults leaves down end_is) = subst (λ e. Gives known bytes piece n after s t old_down new_down e) (sym end_is) (record {
         wrote = [];
@@ -256,7 +256,7 @@ pub gives-then : (known : ℕ → Bool) (bytes piece : List ℕ) (at n : ℕ) (m
 gives-then known bytes piece at n mid now r s t d e f end one two =
     let rest = take (length piece - at) (drop at piece) in
     let all : (bytes ++ take at piece) ++ take n rest ≡ bytes ++ take (at + n) piece =
-        append_assoc bytes (take at piece) (take n rest) ∙ ap (λ xs. bytes ++ xs) (ap (λ xs. take at piece ++ take n xs) (take_rest piece at) ∙ sym (take-add at n piece)) in
+    append_assoc bytes (take at piece) (take n rest) ∙ ap (λ xs. bytes ++ xs) (ap (λ xs. take at piece ++ take n xs) (take_rest piece at) ∙ sym (take-add at n piece)) in
     record {
       wrote = one.wrote ++ two.wrote;
       writes = two.writes ∙ (ap (λ l. l ++ two.wrote) one.writes ∙ append_assoc d one.wrote two.wrote);

@@ -96,8 +96,8 @@ module _ (known : ℕ → Bool) (old : List (Item UpValue)) (start : ShelfView) 
       → items_in bytes ≡ (i ∷ is) ++ x ∷ [] → length bytes ≡ x.end → Hears known old start (i ∷ is) down s → IsOver known old start bytes down t (Server.MediumFault faults)
   over-failed faults i is x f bytes down s t frame r items at h =
       let served : Serves (device_in (i ∷ is)) true (as_frames h.news ++ f ∷ []) start t =
-          serves-append (device_in (i ∷ is)) true (as_frames h.news) (f ∷ []) start s t h.serves (inr (refl, refl, r)) in
+      serves-append (device_in (i ∷ is)) true (as_frames h.news) (f ∷ []) start s t h.serves (inr (refl, refl, r)) in
       let now : Serves (device_in (i ∷ is)) true (as_frames (h.news ++ x ∷ [])) start t =
-          subst (λ gs. Serves (device_in (i ∷ is)) true gs start t) (ap (λ gs. as_frames h.news ++ gs) (sym frame) ∙ sym (frames-push h.news x)) served in
+      subst (λ gs. Serves (device_in (i ∷ is)) true gs start t) (ap (λ gs. as_frames h.news ++ gs) (sym frame) ∙ sym (frames-push h.news x)) served in
       failed faults i is x h.news items h.split (ap (λ l. known (device_in l)) items ∙ friend-now i is down s h) (at ∙ sym (ap (place_after 0) items ∙ place-last 0 (i ∷ is) x)) (omega (arith, ap length frame))
       (down-now i is down s h) (subst (λ l. Serves (device_in l) true (as_frames (h.news ++ x ∷ [])) start t) (sym items) now) refl

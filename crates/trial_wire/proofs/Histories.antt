@@ -66,31 +66,42 @@ module _ (lines : List ScriptLine) (l : ScriptLine) (n : ℕ) where
       }
 
   pub may-old : (c : ConnectionOutcome) → MayFault lines n c → MayFault (lines ++ l ∷ []) n c
-  may-old c (i, line, g, below) =
-      (i, line, gift-old (length c.up) i line g, subst (λ (z : List ScriptLine × List ScriptLine). IsBelow (cover_on Who.Server (server_of z.0).fuse line) (4 * length (frames_between (given_by z.0 n (length c.up)) (given_by z.1 n (length c.up)) c.up)))
-          (old-fronts i (slice_get_within lines i line g.is)) below)
+  may-old c (i, line, g, below) = (
+    i,
+    line,
+    gift-old (length c.up) i line g,
+    subst (λ (z : List ScriptLine × List ScriptLine). IsBelow (cover_on Who.Server (server_of z.0).fuse line) (4 * length (frames_between (given_by z.0 n (length c.up)) (given_by z.1 n (length c.up)) c.up)))
+        (old-fronts i (slice_get_within lines i line g.is)) below,
+  )
 
   pub may-new : (c : ConnectionOutcome) → given_by lines n (length c.up) < given_by (lines ++ l ∷ []) n (length c.up)
       → IsBelow (cover_on Who.Server (server_of lines).fuse l) (4 * length (frames_between (given_by lines n (length c.up)) (given_by (lines ++ l ∷ []) n (length c.up)) c.up))
       → MayFault (lines ++ l ∷ []) n c
-  may-new c g below =
-      (length lines, l, gift-new (length c.up) g, subst (λ (z : List ScriptLine × List ScriptLine). IsBelow (cover_on Who.Server (server_of z.0).fuse l) (4 * length (frames_between (given_by z.0 n (length c.up)) (given_by z.1 n (length c.up)) c.up)))
-          (λ i. (sym (take-lines lines l) i, sym (take-whole lines l) i)) below)
+  may-new c g below = (
+    length lines,
+    l,
+    gift-new (length c.up) g,
+    subst (λ (z : List ScriptLine × List ScriptLine). IsBelow (cover_on Who.Server (server_of z.0).fuse l) (4 * length (frames_between (given_by z.0 n (length c.up)) (given_by z.1 n (length c.up)) c.up)))
+        (λ i. (sym (take-lines lines l) i, sym (take-whole lines l) i)) below,
+  )
 
   -- what must fail of one line more: what must fail of the lines before, or a gift of this one
   pub must-cases : (logs : List ConnectionOutcome) (c : ConnectionOutcome) (i : ℕ) (line : ScriptLine) → MustFault (lines ++ l ∷ []) logs n c i line
       → ((i < length lines) × MustFault lines logs n c i line)
       ⊎ ((given_by lines n (length c.up) < given_by (lines ++ l ∷ []) n (length c.up)) × IsBelow (cover_on Who.Server (server_of lines).fuse l)
-          (4 * fresh_frames (records_given c.imei (connections_of lines) logs) (frames_between (given_by lines n (length c.up)) (given_by (lines ++ l ∷ []) n (length c.up)) c.up)))
+      (4 * fresh_frames (records_given c.imei (connections_of lines) logs) (frames_between (given_by lines n (length c.up)) (given_by (lines ++ l ∷ []) n (length c.up)) c.up)))
   must-cases logs c i line (g, below) = elim (line-cases lines l line i g.is) [
-    | inl (low, is) ↦ inl (low, (
-      record { is = is; gave = subst (λ (z : List ScriptLine × List ScriptLine). given_by z.0 n (length c.up) < given_by z.1 n (length c.up)) (sym (old-fronts i low)) g.gave },
-      subst (λ (z : List ScriptLine × List ScriptLine). IsBelow (cover_on Who.Server (server_of z.0).fuse line) (4 * fresh_frames (records_given c.imei (connections_of z.0) logs) (frames_between (given_by z.0 n (length c.up)) (given_by z.1 n (length c.up)) c.up)))
-          (sym (old-fronts i low)) below,
-    ))
+    | inl (low, is) ↦ inl (
+      low,
+      (
+        record { is = is; gave = subst (λ (z : List ScriptLine × List ScriptLine). given_by z.0 n (length c.up) < given_by z.1 n (length c.up)) (sym (old-fronts i low)) g.gave },
+        subst (λ (z : List ScriptLine × List ScriptLine). IsBelow (cover_on Who.Server (server_of z.0).fuse line) (4 * fresh_frames (records_given c.imei (connections_of z.0) logs) (frames_between (given_by z.0 n (length c.up)) (given_by z.1 n (length c.up)) c.up)))
+            (sym (old-fronts i low)) below,
+      ),
+    )
     | inr (at, same) ↦
         let fronts : ◌≡◌ {A = List ScriptLine × List ScriptLine × ScriptLine} (take i (lines ++ l ∷ []), take (i + 1) (lines ++ l ∷ []), line) (lines, lines ++ l ∷ [], l) =
-            (λ k. ((ap (λ m. take m (lines ++ l ∷ [])) at ∙ take-lines lines l) k, (ap (λ m. take (m + 1) (lines ++ l ∷ [])) at ∙ take-whole lines l) k, sym same k)) in
+        (λ k. ((ap (λ m. take m (lines ++ l ∷ [])) at ∙ take-lines lines l) k, (ap (λ m. take (m + 1) (lines ++ l ∷ [])) at ∙ take-whole lines l) k, sym same k)) in
         inr (
           subst (λ (z : List ScriptLine × List ScriptLine × ScriptLine). given_by z.0 n (length c.up) < given_by z.1 n (length c.up)) fronts g.gave,
           subst (λ (z : List ScriptLine × List ScriptLine × ScriptLine). IsBelow (cover_on Who.Server (server_of z.0).fuse z.2) (4 * fresh_frames (records_given c.imei (connections_of z.0) logs) (frames_between (given_by z.0 n (length c.up)) (given_by z.1 n (length c.up)) c.up)))

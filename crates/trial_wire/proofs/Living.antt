@@ -69,9 +69,9 @@ module _ (bodies : List (List ℕ)) (are : AreSentBodies bodies) (c : Connection
       let sum = add_up (up_rows false) (up_rows true) 0 bytes up_stream in
       let size = length-take-le c.up_given c.up within in
       elim (leb_tells login_size c.up_given) as (λ _. inside_of c ≡ length (rest_in bytes)) [
-      | inl long ↦ rw long.0 (let at = place-is long.1 in omega (arith, sum, size, at))
-      | inr few ↦ rw few.0 (let at = ap (place_after 0) (short-items few.1) in omega (arith, sum, size, at))
-    ]
+        | inl long ↦ rw long.0 (let at = place-is long.1 in omega (arith, sum, size, at))
+        | inr few ↦ rw few.0 (let at = ap (place_after 0) (short-items few.1) in omega (arith, sum, size, at))
+      ]
 
   -- the frames on this line, by the device
   serves-own : (bad : Bool) (fs : List Frame) (start now : ShelfView) → (c.up_given < login_size → fs ≡ []) → (c.up_given < login_size → bad ≡ false) → Serves (device_in (items_in bytes)) bad fs start now → Serves c.imei bad fs start now
@@ -188,9 +188,9 @@ module _ (bodies : List (List ℕ)) (are : AreSentBodies bodies) (c : Connection
         let delivered : delivered_of c ≡ as_frames front ++ frame_by last.end last.value = sym packets-are ∙ (ap as_frames parts.1 ∙ frames-push front last) in
         let size : length (frame_by last.end last.value) ≡ 1 = (let most = one-frame last in omega arith) in
         let counted : counted_of c ≡ as_frames front =
-            ap (λ b. if b then take (length (delivered_of c) - 1) (delivered_of c) else delivered_of c) bad
-            ∙ (ap (λ fs. take (length fs - 1) fs) delivered ∙ (ap (λ k. take k (as_frames front ++ frame_by last.end last.value)) (let sum = length-append (as_frames front) (frame_by last.end last.value) in let e : length (as_frames front ++ frame_by last.end last.value) - 1 ≡ length (as_frames front) = omega (arith, sum, size) in e)
-                ∙ take_at (as_frames front) (frame_by last.end last.value) (length (as_frames front)) refl)) in
+        ap (λ b. if b then take (length (delivered_of c) - 1) (delivered_of c) else delivered_of c) bad
+        ∙ (ap (λ fs. take (length fs - 1) fs) delivered ∙ (ap (λ k. take k (as_frames front ++ frame_by last.end last.value)) (let sum = length-append (as_frames front) (frame_by last.end last.value) in let e : length (as_frames front ++ frame_by last.end last.value) - 1 ≡ length (as_frames front) = omega (arith, sum, size) in e)
+        ∙ take_at (as_frames front) (frame_by last.end last.value) (length (as_frames front)) refl)) in
         record {
           heard = record {
             within = within;
@@ -210,5 +210,5 @@ module _ (bodies : List (List ℕ)) (are : AreSentBodies bodies) (c : Connection
         }
     over-ended end (hearing.broken found judged end_is) server memory =
         absurd (none-broken c.imei bodies are digits c.up_given in-stream found.kind found.place
-            (subst (λ u. judge (next_rows (up_rows false) (up_rows true) (items_in (take c.up_given u))) 0 (rest_in (take c.up_given u)) ≡ fault found.kind found.place) up_is judged))
+        (subst (λ u. judge (next_rows (up_rows false) (up_rows true) (items_in (take c.up_given u))) 0 (rest_in (take c.up_given u)) ≡ fault found.kind found.place) up_is judged))
     over-ended end (hearing.starved end_is) server memory = absurd (memory end_is)

@@ -31,7 +31,11 @@ heard-fed c b more server low = take-append-le c.down_given c.down more low
 module _ (c : ConnectionOutcome) (b : ℕ) (more : List ℕ) (server : ServerEnd) (low : c.down_given ≤ length c.down) where
   stream-fed : (earlier : List Record) → IsWholeStream earlier c → IsWholeStream earlier (fed c b more server)
   stream-fed earlier s = record {
-    login = s.login; whole = s.whole; some = s.some; few = s.few; decided = s.decided;
+    login = s.login;
+    whole = s.whole;
+    some = s.some;
+    few = s.few;
+    decided = s.decided;
     accepted = λ some. ap (take 1) (heard-fed c b more server low) ∙ s.accepted some;
     heard = s.heard;
   }
@@ -103,7 +107,7 @@ pub records-take : (k : ℕ) (fs : List Frame) → AreIn (records_in fs) (record
 records-take k fs =
     subst (λ gs. AreIn (records_in gs) (records_in (take k fs))) (take-append-drop k fs)
     (subst (λ rs. AreIn rs (records_in (take k fs))) (sym (flat_map-append (λ (f : Frame). f.records) (take k fs) (drop k fs)))
-        (in-left (records_in (take k fs)) (records_in (drop k fs)) (records_in (take k fs)) (in-itself (records_in (take k fs)))))
+    (in-left (records_in (take k fs)) (records_in (drop k fs)) (records_in (take k fs)) (in-itself (records_in (take k fs)))))
 
 -- what a device heard was counted
 pub heard-counted : (known : Bool) (c : ConnectionOutcome) → IsHeard known c → c.down_given ≤ length c.down → AreIn (records_in (counted_of c)) (records_in (heard_of c))
@@ -112,7 +116,6 @@ heard-counted known c h low = elim (cases_lt c.up_given login_size) [
   | inr long ↦ by known refl long
 ]
   where
-
     few-heard : c.down_given ≤ 1 → AreIn (records_in (counted_of c)) (records_in (take ((c.down_given - 1) / 4) (frames_of c.up)))
     few-heard few = subst (λ n. AreIn (records_in (counted_of c)) (records_in (take n (frames_of c.up)))) (let e : 0 ≡ (c.down_given - 1) / 4 = omega (arith, few) in e) (All-nil (Contains (records_in (counted_of c))))
 
@@ -121,7 +124,7 @@ heard-counted known c h low = elim (cases_lt c.up_given login_size) [
         let size : length c.down ≡ 1 + 4 * length (counted_of c) = ap length (h.counts long is) ∙ (let q = counts-length (counted_of c) in omega arith) in
         let within : (c.down_given - 1) / 4 ≤ length (counted_of c) = omega (arith, size, low) in
         let same : take ((c.down_given - 1) / 4) (frames_of c.up) ≡ take ((c.down_given - 1) / 4) (counted_of c) =
-            sym (ap (take ((c.down_given - 1) / 4)) (counted-first c) ∙ take-take ((c.down_given - 1) / 4) (length (counted_of c)) (frames_of c.up) within) in
+        sym (ap (take ((c.down_given - 1) / 4)) (counted-first c) ∙ take-take ((c.down_given - 1) / 4) (length (counted_of c)) (frames_of c.up) within) in
         subst (λ fs. AreIn (records_in (counted_of c)) (records_in fs)) (sym same) (records-take ((c.down_given - 1) / 4) (counted_of c))
     by false is long = few-heard (omega (arith, low, ap length (h.stranger long is).0))
 
@@ -135,13 +138,12 @@ pub counted-fed : (c : ConnectionOutcome) (b : ℕ) (more : List ℕ) (server : 
     → counted_of (fed c b more server) ≡ counted_of c ++ receipted failed (frames_between c.up_given b c.up)
 counted-fed c b more server failed good order fault some = rw (fault, good) (rw (delivered-fed c b more server order) (by failed some))
   where
-
     by : (x : Bool) → (x ≡ true → 1 ≤ length (frames_between c.up_given b c.up))
         → (if x then take (length (delivered_of c ++ frames_between c.up_given b c.up) - 1) (delivered_of c ++ frames_between c.up_given b c.up) else delivered_of c ++ frames_between c.up_given b c.up)
         ≡ delivered_of c ++ receipted x (frames_between c.up_given b c.up)
     by true has =
         let size : length (delivered_of c ++ frames_between c.up_given b c.up) - 1 ≡ length (delivered_of c) + (length (frames_between c.up_given b c.up) - 1) =
-            (let one = has refl in omega (arith, length-append (delivered_of c) (frames_between c.up_given b c.up))) in
+        (let one = has refl in omega (arith, length-append (delivered_of c) (frames_between c.up_given b c.up))) in
         ap (λ n. take n (delivered_of c ++ frames_between c.up_given b c.up)) size ∙ take-append-add (delivered_of c) (frames_between c.up_given b c.up) (length (frames_between c.up_given b c.up) - 1)
     by false has = refl
 

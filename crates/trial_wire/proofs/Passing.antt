@@ -39,9 +39,13 @@ wire-new w shelf known limit most is = subst IsWire (sym is) (record {
 
 pub read-follows : (a : WireState) (n : ℕ) → Follows a (record a { heard = a.heard + n })
 read-follows a n = record {
-  known = refl; limit = refl; most = refl;
-  sent = []; up = sym (append-nil a.up);
-  taken = take n (drop a.heard a.down); takes = take-add a.heard n a.down;
+  known = refl;
+  limit = refl;
+  most = refl;
+  sent = [];
+  up = sym (append-nil a.up);
+  taken = take n (drop a.heard a.down);
+  takes = take-add a.heard n a.down;
   faults = omega arith;
   keeps = λ old start h. h;
 }
@@ -51,16 +55,20 @@ pub read-took : (heard n : ℕ) (up down copied rest : List ℕ) → copied ≡ 
 read-took heard n up down copied rest is low =
     let size : length copied ≡ n = ap length is ∙ length-take-le n (drop heard down) low in
     same_traffic (take (heard + n) down) up (take heard down ++ take n (copied ++ rest)) (up ++ [])
-        (take-add heard n down ∙ ap (λ l. take heard down ++ l) (sym is ∙ sym (take_at copied rest n size))) (sym (append-nil up))
+    (take-add heard n down ∙ ap (λ l. take heard down ++ l) (sym is ∙ sym (take_at copied rest n size))) (sym (append-nil up))
 
 -- Writes of the device.
 
 -- without memory
 pub failed-follows : (a : WireState) (up : List ℕ) (faults : ℕ) → up ≡ a.up → a.faults ≤ faults → Follows a (record a { up = up; faults = faults })
 failed-follows a up faults same more = record {
-  known = refl; limit = refl; most = refl;
-  sent = []; up = same ∙ sym (append-nil a.up);
-  taken = []; takes = sym (append-nil (take a.heard a.down));
+  known = refl;
+  limit = refl;
+  most = refl;
+  sent = [];
+  up = same ∙ sym (append-nil a.up);
+  taken = [];
+  takes = sym (append-nil (take a.heard a.down));
   faults = more;
   keeps = λ old start h. subst (λ u. Stands (knows a.known) old start (take a.given u) a.down a.shelf a.ended) (sym same) h;
 }
@@ -68,9 +76,13 @@ failed-follows a up faults same more = record {
 -- to a session that ended
 pub sent-follows : (a : WireState) (up sent : List ℕ) → up ≡ a.up ++ sent → a.given ≤ length a.up → Follows a (record a { up = up })
 sent-follows a up sent is low = record {
-  known = refl; limit = refl; most = refl;
-  sent = sent; up = is;
-  taken = []; takes = sym (append-nil (take a.heard a.down));
+  known = refl;
+  limit = refl;
+  most = refl;
+  sent = sent;
+  up = is;
+  taken = [];
+  takes = sym (append-nil (take a.heard a.down));
   faults = omega arith;
   keeps = λ old start h. subst (λ bytes. Stands (knows a.known) old start bytes a.down a.shelf a.ended) (sym (ap (take a.given) is ∙ take-append-le a.given a.up sent low)) h;
 }
@@ -79,9 +91,13 @@ sent-follows a up sent is low = record {
 pub passed-follows : (a : WireState) (up sent : List ℕ) (at to : ℕ) (now : SessionState) (t : ShelfView) (down : List ℕ) (ended : Option ServerEnd) → up ≡ a.up ++ sent → a.given ≤ length a.up → a.heard ≤ length a.down → a.ended ≡ None
     → Passes a.known up a.given to now a.shelf t a.down down at ended → Follows a (record a { up = up; given = at; down = down; shelf = t; session = now; ended = ended })
 passed-follows a up sent at to now t down ended is low heard on p = record {
-  known = refl; limit = refl; most = refl;
-  sent = sent; up = is;
-  taken = []; takes = ap (take a.heard) p.writes ∙ (take-append-le a.heard a.down p.wrote heard ∙ sym (append-nil (take a.heard a.down)));
+  known = refl;
+  limit = refl;
+  most = refl;
+  sent = sent;
+  up = is;
+  taken = [];
+  takes = ap (take a.heard) p.writes ∙ (take-append-le a.heard a.down p.wrote heard ∙ sym (append-nil (take a.heard a.down)));
   faults = omega arith;
   keeps = λ old start h.
       let before : Hears (knows a.known) old start (items_in (take a.given a.up)) a.down a.shelf = subst (λ e. Stands (knows a.known) old start (take a.given a.up) a.down a.shelf e) on h in

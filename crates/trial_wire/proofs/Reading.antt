@@ -55,17 +55,17 @@ later-read place (b ∷ bodies) are =
     let judged : judge (up_rows true) 0 (frame_of b ++ more) ≡ whole v (12 + length b) = up_whole true v (frame_of b) more are.0.frame ∙ ap (whole v) (frame-length b) in
     front_read (up_rows true) (up_rows true) place (12 + length b) v (frame_of b ++ more) (record { first_begins = starts_short_up true; later_begins = starts_short_up true }) judged
     ∙ ap (λ (r : Reading UpValue). let all : Reading UpValue = record { items = record { value = v; end = place + (12 + length b) } ∷ r.items; rest = r.rest } in all)
-        (ap (reading_of (up_rows true) (up_rows true) (place + (12 + length b))) (drop_at (frame_of b) more (12 + length b) (frame-length b)) ∙ later-read (place + (12 + length b)) bodies are.1)
+    (ap (reading_of (up_rows true) (up_rows true) (place + (12 + length b))) (drop_at (frame_of b) more (12 + length b) (frame-length b)) ∙ later-read (place + (12 + length b)) bodies are.1)
 
 pub whole-read : (imei : ℕ) (bodies : List (List ℕ)) (are : AreSentBodies bodies) → imei < 10 ^ 15
     → up_reading false (stream_up imei bodies) ≡ record { items = record { value = login imei; end = 17 } ∷ items_at 17 bodies are; rest = [] }
 whole-read imei bodies are digits =
     let more = flat_map frame_of bodies in
     let judged : judge (up_rows false) 0 (login_of imei ++ more) ≡ whole (login imei) 17 =
-        up_whole false (login imei) (login_of imei) more (record { is = refl; digits = digits }) ∙ ap (whole (login imei)) (login-length imei) in
+    up_whole false (login imei) (login_of imei) more (record { is = refl; digits = digits }) ∙ ap (whole (login imei)) (login-length imei) in
     front_read (up_rows false) (up_rows true) 0 17 (login imei) (login_of imei ++ more) up_stream judged
     ∙ ap (λ (r : Reading UpValue). let all : Reading UpValue = record { items = record { value = login imei; end = 17 } ∷ r.items; rest = r.rest } in all)
-        (ap (reading_of (up_rows true) (up_rows true) 17) (drop_at (login_of imei) more 17 (login-length imei)) ∙ later-read 17 bodies are)
+    (ap (reading_of (up_rows true) (up_rows true) 17) (drop_at (login_of imei) more 17 (login-length imei)) ∙ later-read 17 bodies are)
 
 -- The frames of the stream.
 
@@ -80,7 +80,7 @@ front-frame b more s few =
     let at = front-body b more few in
     let packet_is : is_packet (body_at (frame_of b ++ more)) ≡ true = ap is_packet at ∙ ap is_whole (body_judged s.head b s.frame.of_body) in
     let begins : starts_with nat_eq (frame_of b ++ more) (frame_of (body_at (frame_of b ++ more))) ≡ true =
-        ap (λ x. starts_with nat_eq (frame_of b ++ more) (frame_of x)) at ∙ (ap (bytes_eq (frame_of b)) (take_at (frame_of b) more (length (frame_of b)) refl) ∙ (bytes_eq-Decides (frame_of b) (frame_of b)).1 refl) in
+    ap (λ x. starts_with nat_eq (frame_of b ++ more) (frame_of x)) at ∙ (ap (bytes_eq (frame_of b)) (take_at (frame_of b) more (length (frame_of b)) refl) ∙ (bytes_eq-Decides (frame_of b) (frame_of b)).1 refl) in
     rw (packet_is, begins) refl
 
 no-frame : (most place : ℕ) → frames_from most place [] ≡ record { frames = []; rest = [] }
@@ -189,6 +189,6 @@ module _ (imei : ℕ) (bodies : List (List ℕ)) (are : AreSentBodies bodies) (d
       let up = stream_up imei bodies in
       let ends = fault_ends (up_rows false) (up_rows true) 0 (take n up) (drop n up) kind at up_stream e in
       let rest : rest_in (take n up) ++ drop n up ≡ [] =
-          ap (λ (r : Reading UpValue). r.rest) (sym ends.0) ∙ (ap (λ bytes. (up_reading false bytes).rest) (take-append-drop n up) ∙ ap (λ (r : Reading UpValue). r.rest) (whole-read imei bodies are digits)) in
+      ap (λ (r : Reading UpValue). r.rest) (sym ends.0) ∙ (ap (λ bytes. (up_reading false bytes).rest) (take-append-drop n up) ∙ ap (λ (r : Reading UpValue). r.rest) (whole-read imei bodies are digits)) in
       let begins = (rows_begin (up_rows false) (up_rows true) (items_in (take n up)) up_stream).first_begins in
       absurd (let never : ◌≡◌ {A = Verdict UpValue} short (fault kind at) = sym begins ∙ (ap (judge (next_rows (up_rows false) (up_rows true) (items_in (take n up))) 0) (sym rest) ∙ ends.1) in cc)

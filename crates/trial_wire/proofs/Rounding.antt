@@ -68,7 +68,7 @@ module _ (known : Bool) (bodies : List (List ℕ)) (are : AreSentBodies bodies) 
   failed-all friend bad =
       let some = heard.uncounted bad in
       let counted : length (counted_of c) ≡ length (delivered_of c) - 1 =
-          ap (λ b. length (if b then take (length (delivered_of c) - 1) (delivered_of c) else delivered_of c)) bad ∙ length-take-le (length (delivered_of c) - 1) (delivered_of c) (omega arith) in
+      ap (λ b. length (if b then take (length (delivered_of c) - 1) (delivered_of c) else delivered_of c)) bad ∙ length-take-le (length (delivered_of c) - 1) (delivered_of c) (omega arith) in
       let size : length c.down ≡ 1 + 4 * length (counted_of c) = ap length (heard.counts long friend) ∙ (let q = counts-length (counted_of c) in omega arith) in
       let most : length (heard_of c) ≤ (c.down_given - 1) / 4 = omega (arith, length-take ((c.down_given - 1) / 4) (frames_of c.up)) in
       delivered-all (omega (arith, some, counted, size, most, low, ahead))
@@ -120,7 +120,13 @@ module _ (known : ℕ → Bool) (cover : Option ℕ) (earlier : List Record) (o 
   going-rounded h server given =
       let good : is_fault c.server ≡ false = ap is_fault server ∙ now-good (length (rest_in (take c.up_given c.up))) in
       record {
-        imei = imei; given = given; down_given = read; sent = sent; few = few; device = device; done = done;
+        imei = imei;
+        given = given;
+        down_given = read;
+        sent = sent;
+        few = few;
+        device = device;
+        done = done;
         stream = inr (record { bodies = bodies; are = are; is = up_is });
         heard = going-heard bodies are c digits up_is within known [] start now h good;
         serves = subst (λ fs. Serves c.imei false fs start now) (sym (going-split bodies are c digits up_is within known [] start now h)) (going-serves bodies are c digits up_is within known [] start now h);
@@ -133,16 +139,24 @@ module _ (known : ℕ → Bool) (cover : Option ℕ) (earlier : List Record) (o 
       → (failed : Bool) × IsRounded (known c.imei) failed cover earlier o c false start now
   over-rounded end over server memory given =
       let e = over-ended bodies are c digits up_is within known [] start now end over server memory in
-      let all = ended-all known bodies are c digits up_is within low-down earlier stream [] start now end server e in
-      (e.failed, record {
-        imei = imei; given = omega (arith, all, given, up_to-least o.up (length c.up)); down_given = read; sent = sent; few = few; device = device; done = done;
-        stream = inr (record { bodies = bodies; are = are; is = up_is });
-        heard = e.heard;
-        serves = subst (λ fs. Serves c.imei e.failed fs start now) (sym e.split) e.serves;
-        fault = ap is_fault server ∙ e.fault;
-        end = subst (IsOwnEnd c) (sym server) e.own;
-        all = λ _. all;
-      })
+      let all = ended-all known bodies are c digits up_is within low-down earlier stream [] start now end server e in (
+        e.failed,
+        record {
+          imei = imei;
+          given = omega (arith, all, given, up_to-least o.up (length c.up));
+          down_given = read;
+          sent = sent;
+          few = few;
+          device = device;
+          done = done;
+          stream = inr (record { bodies = bodies; are = are; is = up_is });
+          heard = e.heard;
+          serves = subst (λ fs. Serves c.imei e.failed fs start now) (sym e.split) e.serves;
+          fault = ap is_fault server ∙ e.fault;
+          end = subst (IsOwnEnd c) (sym server) e.own;
+          all = λ _. all;
+        },
+      )
 
 -- A `late` line's bytes, on a connection whose session had heard some of the stream.
 module _ (known : ℕ → Bool) (earlier : List Record) (bodies : List (List ℕ)) (are : AreSentBodies bodies) (c : ConnectionOutcome) (b : ℕ) (more : List ℕ) (server : ServerEnd) (start now : ShelfView)
@@ -171,12 +185,14 @@ module _ (known : ℕ → Bool) (earlier : List Record) (bodies : List (List ℕ
 
   pub over-fed : IsOver known old start (take b c.up) (c.down ++ more) now server → (server ≡ Server.NoMemory → ⊥) → (failed : Bool) × IsFed (known c.imei) failed b c more server false start now
   over-fed over memory =
-      let e = over-ended bodies are (fed c b more server) digits up_is within known old start now server over refl memory in
-      (e.failed, record {
-        after = before;
-        serves = subst (λ fs. Serves c.imei e.failed fs start now) (between-is e.frames e.split) e.serves;
-        heard = e.heard;
-        fault = e.fault;
-        end = e.own;
-        all = λ _. ended-all known bodies are (fed c b more server) digits up_is within low earlier stream old start now server refl e;
-      })
+      let e = over-ended bodies are (fed c b more server) digits up_is within known old start now server over refl memory in (
+        e.failed,
+        record {
+          after = before;
+          serves = subst (λ fs. Serves c.imei e.failed fs start now) (between-is e.frames e.split) e.serves;
+          heard = e.heard;
+          fault = e.fault;
+          end = e.own;
+          all = λ _. ended-all known bodies are (fed c b more server) digits up_is within low earlier stream old start now server refl e;
+        },
+      )

@@ -6,16 +6,22 @@ use Rattle.trial_wire.specs.WireLinks.{Follows, WireState, link_state}
 
 pub follows_none : (a : WireState) → Follows a a
 follows_none a = record {
-  known = refl; limit = refl; most = refl;
-  sent = []; up = sym (append-nil a.up);
-  taken = []; takes = sym (append-nil (take a.heard a.down));
+  known = refl;
+  limit = refl;
+  most = refl;
+  sent = [];
+  up = sym (append-nil a.up);
+  taken = [];
+  takes = sym (append-nil (take a.heard a.down));
   faults = omega arith;
   keeps = λ old start h. h;
 }
 
 pub follows_then : (a b c : WireState) → Follows a b → Follows b c → Follows a c
 follows_then a b c f g = record {
-  known = g.known ∙ f.known; limit = g.limit ∙ f.limit; most = g.most ∙ f.most;
+  known = g.known ∙ f.known;
+  limit = g.limit ∙ f.limit;
+  most = g.most ∙ f.most;
   sent = f.sent ++ g.sent;
   up = g.up ∙ (ap (λ xs. xs ++ g.sent) f.up ∙ append_assoc a.up f.sent g.sent);
   taken = f.taken ++ g.taken;

@@ -14,12 +14,7 @@ use shelf::{AdmitFault, Shelf};
 use trial_model::ServerEnd;
 
 // Answers a login.
-fn greet(
-    session: &mut Session,
-    known: &Known,
-    imei: Imei,
-    down: &mut ByteList,
-) -> Option<ServerEnd>
+fn greet(session: &mut Session, known: &Known, imei: Imei, down: &mut ByteList) -> Option<ServerEnd>
     requires { Owes session.old }
     ensures session { session.new ≡ record session.old { owes = false; refused = not (knows known.now imei) } }
     ensures greets { Greets (knows known.now imei) imei down.old down.new result }

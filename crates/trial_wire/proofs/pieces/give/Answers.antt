@@ -28,7 +28,7 @@ loop-at-preserved g c =
           gives-then (knows c.args.known.now) bytes c.args.piece.now c.loop-at.at c.give_one-n.result.0 c.loop-at.session c.give_one-n.new.session c.args.shelf.now c.loop-at.shelf c.give_one-n.new.shelf
           c.args.down.now c.loop-at.down c.give_one-n.new.down None one
           (subst (Gives (knows c.args.known.now) (bytes ++ take c.loop-at.at c.args.piece.now) rest c.give_one-n.result.0 c.give_one-n.new.session c.loop-at.shelf c.give_one-n.new.shelf c.loop-at.down c.give_one-n.new.down) none
-              (c.give_one-n.ensures.gives (bytes ++ take c.loop-at.at c.args.piece.now) one.taken));
+          (c.give_one-n.ensures.gives (bytes ++ take c.loop-at.at c.args.piece.now) one.taken));
     }
 
 pub returns-then-is_some-clause-gives : goal.returns-then-is_some-clause-gives
