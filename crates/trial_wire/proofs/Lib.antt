@@ -1,0 +1,11 @@
+pub mod Changing
+pub mod Feeding
+pub mod Filters
+pub mod Giving
+pub mod Hearing
+pub mod Histories
+pub mod Living
+pub mod Logs
+pub mod Passing
+pub mod Reading
+pub mod Rounding

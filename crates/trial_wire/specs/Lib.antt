@@ -1,0 +1,6 @@
+pub mod Connections
+pub mod Following
+pub mod Hearing
+pub mod Sending
+pub mod Steps
+pub mod WireLinks
