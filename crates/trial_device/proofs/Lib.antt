@@ -1,0 +1,14 @@
+pub mod Parts
+pub mod Onces
+pub mod Paces
+pub mod Slots
+pub mod Images
+pub mod Evictions
+pub mod Holding
+pub mod StoreSteps
+pub mod Fixing
+pub mod Rounding
+pub mod Powering
+pub mod Listing
+pub mod Counting
+pub mod Starting
