@@ -108,7 +108,7 @@ list-admitted given counted imei rs list right = record {
     other-keeps j other = subst (λ l. AreIn l (counted j ++ [])) (sym (admitted-other j imei list rs other))
         (All-append (Contains (recs_for j list)) (counted j) [] (right.keeps j) (All-nil (Contains (recs_for j list))))
 
--- Where records stand in no account that covers the list, something of the packet is new.
+-- Where records are in no account that covers the list, something of the packet is new.
 pub fresh-some : (before : List Record) (imei : ℕ) (list : List StoredValue) (rs : List Record) → AreIn before (recs_for imei list) → list_any (λ r. not (is_listed before r)) rs ≡ true → 1 ≤ length (fresh list imei rs)
 fresh-some before imei list [] h any = absurd (false≢true any)
 fresh-some before imei list (r ∷ rs) h any = split (λ rest. fresh-some before imei list rs h rest) (has list imei r) refl

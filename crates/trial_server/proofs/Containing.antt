@@ -23,7 +23,7 @@ in-left xs ys rs h = All-weaker (Contains xs) (Contains (xs ++ ys)) (λ r at. Co
 pub in-right : (xs ys rs : List Record) → AreIn ys rs → AreIn (xs ++ ys) rs
 in-right xs ys rs h = All-weaker (Contains ys) (Contains (xs ++ ys)) (λ r at. Contains-append_right xs ys r at) rs h
 
--- A record is listed exactly where it stands in the list.
+-- A record is listed exactly where it is in the list.
 
 first-in : (s r : Record) (more : List Record) → s ≡ r → Contains (s ∷ more) r
 first-in s r more e = (0, omega arith, e)

@@ -53,7 +53,7 @@ module _ (before : List Record) (imei : ℕ) (f : Frame) (old new : ShelfView) (
       subst (λ l. AreIn (before ++ f.records) (recs_for imei l)) (sym list_is) (rw (admitted-own imei old.list f.records)
       (adds-only (before ++ f.records) (recs_for imei old.list) f.records (in-left before f.records (recs_for imei old.list) h) (in-right before f.records f.records (in-itself f.records))))
 
--- Where so many calls pass, they suffice for the frames with a record of none before, or the medium failed; and it fails only
+-- Where N calls pass, they suffice for the frames with a record of none before, or the medium failed; and it fails only
 -- where they don't suffice for all.
 pub serves-paced : (before : List Record) (imei : ℕ) (failed : Bool) (fs : List Frame) (old new : ShelfView) (k : ℕ)
     → AreIn before (recs_for imei old.list) → old.medium.left ≡ after k → Serves imei failed fs old new

@@ -91,7 +91,7 @@ allowed-sound lines logs known cover earlier n h w more up sound = record {
   ended = sound.ended;
 }
 
--- It was closed: its session sees the end that stands in the log.
+-- It was closed: its session sees the end that is in the log.
 pub closed-sound : (lines : List ScriptLine) (logs : List ConnectionOutcome) (known : Bool) (cover : Option ℕ) (earlier : List Record) (n : ℕ) (h : ConnectionHistory) (w : Connection)
     → IsConnectionSound lines logs known cover earlier n h w → IsConnectionSound lines logs known cover earlier n (closed h) (shut w)
 closed-sound lines logs known cover earlier n h w sound = record {
@@ -106,7 +106,7 @@ closed-sound lines logs known cover earlier n h w sound = record {
   ended = λ off half. absurd (false≢true half);
 }
 
--- What is true of a session that goes on, by the end that stands in its log.
+-- What is true of a session that goes on, by the end that is in its log.
 
 pub good-now : (c : ConnectionOutcome) (end : ServerEnd) → IsEndNow c end → is_fault end ≡ false
 good-now c Server.Ended e = refl

@@ -55,7 +55,7 @@ parts place a b (f ∷ fs) rises order =
           ]
     ]
 
--- those up to a place stand first
+-- those up to a place come first
 firsts : (place n : ℕ) (fs : List Frame) → Rises place fs → filter (λ f. nat_le f.end n) fs ≡ take (length (filter (λ f. nat_le f.end n) fs)) fs
 firsts place n [] rises = refl
 firsts place n (f ∷ fs) rises = elim (leb_tells f.end n) as (λ _. filter (λ f. nat_le f.end n) (f ∷ fs) ≡ take (length (filter (λ f. nat_le f.end n) (f ∷ fs))) (f ∷ fs)) [

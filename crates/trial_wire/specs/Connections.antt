@@ -17,7 +17,7 @@ use Rattle.trial_model.specs.Script.{Opening}
 use Rattle.trial_wire.specs.Sending.{IsSentStream}
 use Rattle.trial_server.specs.Serving.{Serves}
 
--- The log so far, and whether the server's session goes on. The end of a session that goes on stands in the log as it would
+-- The log so far, and whether the server's session goes on. The end of a session that goes on is in the log as it would
 -- be if the connection ended now.
 pub record Connection : Type 0 where
   pub log : ConnectionOutcome

@@ -69,7 +69,7 @@ pub record Hears (known : ℕ → Bool) (old : List (Item UpValue)) (start : She
   pub split : items ≡ old ++ news
   pub serves : Serves (device_in items) false (as_frames news) start shelf
 
--- How a session ended, by the bytes that it took: up to its last item, or none can begin with what stands after the items.
+-- How a session ended, by the bytes that it took: up to its last item, or none can begin with what follows the items.
 pub data IsOver (known : ℕ → Bool) (old : List (Item UpValue)) (start : ShelfView) (bytes down : List ℕ) (shelf : ShelfView) (end : ServerEnd) : Type 0 where
   -- the login of a stranger, who was refused
   refused : (i : Item UpValue) → items_in bytes ≡ i ∷ [] → old ≡ [] → known (device_in (items_in bytes)) ≡ false → length bytes ≡ place_after 0 (items_in bytes)

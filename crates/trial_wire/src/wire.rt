@@ -125,7 +125,7 @@ fn pass<M: Medium>(
 }
 
 impl<M: Medium> Wire<M> {
-    /// A wire over a new session, of which the line lets through so many bytes up and down; None is no limit.
+    /// A wire over a new session, of which the line lets through N bytes up and down; None is no limit.
     pub fn new(
         alloc: Global,
         shelf: Shelf<M>,
