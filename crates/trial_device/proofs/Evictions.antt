@@ -1,9 +1,9 @@
 -- Evictions, one decision later.
-use Rattle.std.proofs.Common.{◌≡◌, ℕ, ◌<◌, List, [], ◌∷◌, ◌++◌, length, map, slice_get, Some, refl, sym, ap, ◌∙◌, subst, arith, length-append}
+use Rattle.std.proofs.Common.{◌≡◌, ℕ, ◌<◌, List, [], ◌∷◌, ◌++◌, length, map, sym, subst}
 use Rattle.std.specs.List.{All, AllZip}
-use Rattle.std.proofs.lemmas.List.{get_or_append_left, get_or_at, map-append}
+use Rattle.std.proofs.lemmas.List.{map-append}
 use Rattle.std.proofs.lemmas.List.Elements.{All-cons, All-head, All-nil, All-push, All-tail}
-use Rattle.std.proofs.lemmas.Option.{get_or_from_slice_get, slice_get-get_or, slice_get_within}
+use Rattle.std.proofs.lemmas.Option.{slice_get_within}
 use Rattle.avl_values.specs.Record.{Record}
 use Rattle.flash_ring.specs.Held.{IsPart}
 use Rattle.record_lists.proofs.EachOnce.{get-front, get-last}
