@@ -1,7 +1,7 @@
 ghost use Rattle.std.specs.Prelude.{◌≡◌, ◌≢◌, ◌⊎◌, ◌<◌, ◌^◌, IfOk, Err, length};
 ghost use Rattle.std.specs.Io.KnownBytes.{IsAtEnd};
 ghost use Rattle.avl_values.specs.Causes.{Rose};
-ghost use Rattle.fmb_run.specs.Text.{IsReadOf};
+ghost use Rattle.fmb_io.specs.Text.{IsReadOf};
 
 use avl_values::{Failed, NoMemory};
 use std::alloc::Global;
@@ -13,14 +13,14 @@ const PIECE: usize = 65_536;
 
 /// Why a text was not read.
 #[derive(Clone, Copy, Debug, PartialEq, Eq)]
-pub(crate) enum Unread {
+pub enum Unread {
     /// The source failed.
     Failed,
     NoMemory,
 }
 
 /// Reads a source to its end, or until there are more bytes than a script or a capture may have; then the first 2^24 + 1 are kept.
-pub(crate) fn read_text<S: Source>(alloc: Global, source: &mut S) -> Result<Vec<u8>, Unread>
+pub fn read_text<S: Source>(alloc: Global, source: &mut S) -> Result<Vec<u8>, Unread>
     ensures text { IfOk result (λ text. IsReadOf (S.state source.old).left text.items) }
     ensures end { IfOk result (λ text. IsAtEnd (S.state source.new).left ⊎ (2 ^ 24 < length text.items)) }
     ensures failed { result ≡ Err Unread.Failed → Rose (S.state source.old).faults (S.state source.new).faults }

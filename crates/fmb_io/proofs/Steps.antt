@@ -1,18 +1,13 @@
--- What a trial and a capture come to, put together of their steps.
-use Rattle.std.proofs.Common.{◌≡◌, ◌+◌, ◌<◌, ℕ, List, Option, Some, None, IfSome, refl, sym, ◌∙◌, ap, subst, arith}
+-- A text that was opened, read and given back, and lines that were printed: what that comes to on the host.
+use Rattle.std.proofs.Common.{◌≡◌, ◌+◌, ◌<◌, ℕ, List, [], ◌∷◌, IfSome, refl, sym, ◌∙◌, ap, subst, arith}
 use Rattle.std.proofs.lemmas.Bool.{ne_eqb}
 use Rattle.text_streams.specs.States.{SourceState, SinkState}
 use Rattle.text_streams.specs.Writes as writes
 use Rattle.fmb_host.specs.declared.host.Counts.{Counts}
-use Rattle.fmb_host.specs.Host.{HostView, HandsOut, TakesBack, ComesBack, Returns, counted_once, lends_one}
-use Rattle.fmb_run.proofs.ReadLemmas.{same_script}
-use Rattle.fmb_run.specs.Printed.{Prints}
-use Rattle.fmb_run.specs.Text.{HasBack, IsOpened, IsReadOf, IsReturned, IsTextOf, ReadsText}
-
--- a text that was handed out is back
-has_back : (before mid after : Option Returns) (text : SourceState) → mid ≡ lends_one before → ComesBack mid text after → HasBack before text after
-has_back None mid after text is back = subst (λ m. ComesBack m text after) is back
-has_back (Some r) mid after text is back = subst (λ m. ComesBack m text after) is back
+use Rattle.fmb_host.specs.Host.{HostView, HandsOut, TakesBack, counted_once}
+use Rattle.fmb_host.proofs.Stocks.{passes_along, passes_one}
+use Rattle.fmb_io.specs.Printed.{Prints}
+use Rattle.fmb_io.specs.Text.{IsOpened, IsReadOf, IsReturned, IsTextOf, ReadsText}
 
 -- a text that was handed out and came back, the sink used meanwhile
 module _ (before mid used after : HostView) (last : SinkState) (source read : SourceState) where
@@ -20,8 +15,7 @@ module _ (before mid used after : HostView) (last : SinkState) (source read : So
   used_and_back P out only back holds = record {
     source = source;
     read = read;
-    next = rw (← (ap (λ h. h.texts) back.others ∙ ap (λ h. h.texts) only)) at out.first;
-    last = has_back before.returns used.returns after.returns read (ap (λ h. h.returns) only ∙ ap (λ h. h.returns) out.others) back.last;
+    passes = passes_one source read before.texts used.texts after.texts (rw (← (ap (λ h. h.texts) only)) at out.texts) back.texts;
     holds = holds;
   }
 
@@ -29,7 +23,7 @@ module _ (before mid used after : HostView) (last : SinkState) (source read : So
       → IsTextOf source.left text → IsOpened word text before after
   opened_and_used word text out named only back told = record {
     source = source;
-    next = rw (← (ap (λ h. h.texts) back.others ∙ ap (λ h. h.texts) only)) at out.first;
+    next = rw (← (back.texts.coming ∙ ap (λ h. h.texts.coming) only)) at out.texts.first;
     named = named;
     bytes = told;
   }
@@ -64,20 +58,22 @@ there_and_back before mid after source read P out back holds = used_and_back bef
 -- a text that was handed out, read and taken back
 pub read_whole : (word text : List ℕ) (before mid after : HostView) (source read : SourceState)
     → HandsOut before source mid → IfSome source.name (λ told. told ≡ word) → IsReadOf source.left text → TakesBack mid read after → ReadsText word text before after
-read_whole word text before mid after source read out named got back =
-    let found = same_script source.left text got in
-    record { whole = found.0; opened = opened_and_used before mid mid after mid.sink source read word found.0 out named refl back found.1; same = found.2 }
+read_whole word text before mid after source read out named got back = record {
+  source = source;
+  next = rw (← back.texts.coming) at out.texts.first;
+  named = named;
+  read = got;
+}
 
 -- a line that was printed on a host was printed on one with the same sink
 pub prints_on : (line : List ℕ) (before mid after : HostView) → mid.sink ≡ before.sink → Prints line mid after → Prints line before after
 prints_on line before mid after same printed = subst (λ s. writes.Prints line s after.sink) same printed
 
--- what was handed out and came back stays so where neither list changes
-pub returned_along : (P : SourceState → Type 0) (before mid after : HostView) → IsReturned P before mid → after.texts ≡ mid.texts → after.returns ≡ mid.returns → IsReturned P before after
-returned_along P before mid after returned texts returns = record {
+-- what was handed out and came back stays so where the texts don't change
+pub returned_along : (P : SourceState → Type 0) (before mid after : HostView) → IsReturned P before mid → after.texts ≡ mid.texts → IsReturned P before after
+returned_along P before mid after returned texts = record {
   source = returned.source;
   read = returned.read;
-  next = rw texts returned.next;
-  last = rw returns returned.last;
+  passes = passes_along (returned.source ∷ []) (returned.read ∷ []) before.texts mid.texts after.texts returned.passes texts;
   holds = returned.holds;
 }

@@ -1,6 +1,6 @@
 use Rattle.std.proofs.Common.{◌≡◌, ◌≤◌, ◌-◌, ◌^◌, length, arith}
-use Rattle.fmb_run.proofs.ReadLemmas.{read_enough}
-use Rattle.fmb_run.proofs.reading.read_pieces.Goals as goal
+use Rattle.fmb_io.proofs.ReadSteps.{read_enough}
+use Rattle.fmb_io.proofs.reading.read_pieces.Goals as goal
 
 pub returns-then-count-eq0-clause-text : goal.returns-then-count-eq0-clause-text
 returns-then-count-eq0-clause-text g c =

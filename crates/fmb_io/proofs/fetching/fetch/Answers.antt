@@ -1,5 +1,5 @@
-use Rattle.fmb_run.proofs.RunLemmas.{read_whole, there_and_back}
-use Rattle.fmb_run.proofs.running.fetch.Goals as goal
+use Rattle.fmb_io.proofs.Steps.{read_whole, there_and_back}
+use Rattle.fmb_io.proofs.fetching.fetch.Goals as goal
 
 pub returns-in-Ok-text-clause-text : goal.returns-in-Ok-text-clause-text
 returns-in-Ok-text-clause-text g c = read_whole _ _ _ _ _ _ _ c.in-Ok.ensures.handed c.in-Ok.ensures.named c.in-Ok-text.ensures.text c.text_back.ensures
