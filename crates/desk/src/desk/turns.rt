@@ -12,7 +12,7 @@ ghost use Rattle.desk.specs.Steps.{HasTurn};
 ghost use Rattle.desk.specs.Views.{IsAlone, first_view};
 ghost use Rattle.desk.specs.Views.Stage.{Idle};
 
-use super::{Desk, SERVING, Seat, Token};
+use super::{Desk, SERVING, Seat, TICKET, Token};
 use crate::view::Opening;
 use atomic_table::{Refused, Table};
 use avl_values::{Imei, NoMemory};
