@@ -12,7 +12,7 @@ pub trait Door: Drop {
     /// What contracts see of it.
     ghost state: { Self → DoorState Self.L };
 
-    /// How often accepting failed. The count never falls, and stands still at its type's end.
+    /// How often accepting failed. The count never falls, and stays at its type's greatest value.
     fn faults(&self) -> u64
         ensures count { result ≡ (state self.now).faults };
 

@@ -1,11 +1,12 @@
-ghost use Rattle.std.specs.Prelude.{◌≡◌, ◌↔◌, ◌<◌, ◌≤◌, ◌-◌, ◌^◌, ◌∷◌, IfOk, OnErr, IsErr, IsTrue, All, Contains};
+ghost use Rattle.std.specs.Prelude.{◌≡◌, ◌↔◌, ◌<◌, ◌≤◌, ◌-◌, ◌^◌, ◌∷◌, IfOk, OnErr, IsErr, All};
 ghost use Rattle.avl_values.specs.Causes.{HasCause, more_by_one};
-ghost use Rattle.links.specs.Memory.{IsChosen, link_state};
+ghost use Rattle.links.specs.Memory.{link_state};
 ghost use Rattle.doors.specs.Doors.{Gives, GivesNone, IsUnused, TakesBack};
 ghost use Rattle.doors.specs.MemoryDoors.{FailsNext, IsUnusedLink, after_accept, after_done, after_failure, door_state, unopened};
 
 use crate::door::Door;
 use avl_values::{Failed, NoMemory};
+use fault_plan::FaultPlan;
 use links::{Link, MemoryLink};
 use std::alloc::Global;
 use std::collections::VecDeque;
@@ -18,8 +19,7 @@ pub struct MemoryDoor {
     coming: VecDeque<MemoryLink>,
     ended: Vec<MemoryLink>,
     out: usize,
-    failing: Vec<u64>,
-    calls: u64,
+    plan: FaultPlan,
     faults: u64,
     link_faults: u64,
 }
@@ -36,8 +36,7 @@ impl Model for MemoryDoor {
       gives = d.coming.items;
       back = d.ended.items;
       out = d.out;
-      failing = d.failing.items;
-      calls = d.calls;
+      plan = d.plan;
       faults = d.faults;
       link_faults = d.link_faults;
     } };
@@ -47,7 +46,7 @@ impl Model for MemoryDoor {
 
 impl MemoryDoor {
     /// A door that gives these links, which were not used yet, in order. It takes the memory for those that come back at once.
-    /// Accepts are numbered from 0. One fails, and counts, exactly where its number stands in `failing`, and where no link is
+    /// Accepts are numbered from 0. One fails, and counts, exactly where its number is in `failing`, and where no link is
     /// left.
     pub fn new(
         alloc: Global,
@@ -66,8 +65,7 @@ impl MemoryDoor {
             coming,
             ended,
             out: 0,
-            failing: Vec::from_slice(alloc, failing)?,
-            calls: 0,
+            plan: FaultPlan::new(alloc, failing)?,
             faults: 0,
             link_faults: 0,
         })
@@ -78,16 +76,6 @@ impl MemoryDoor {
         ensures { result.now ≡ self.now.back }
     {
         self.ended.as_slice()
-    }
-
-    /// Counts an accept, and says whether it was chosen to fail.
-    fn is_chosen(&mut self) -> bool
-        ensures chosen { IsTrue result ↔ Contains self.old.failing self.old.calls }
-        ensures counted { self.new ≡ record self.old { calls = more_by_one self.old.calls } }
-    {
-        let call = self.calls;
-        self.calls = call.saturating_add(1);
-        self.failing.contains(&call)
     }
 
     /// Counts a failed accept.
@@ -126,7 +114,7 @@ impl Door for MemoryDoor {
         ensures after { IfOk result (λ _. self.new ≡ after_accept self.new.gives self.old) }
         ensures after_failure { OnErr result (self.new ≡ after_failure self.old) }
     {
-        if self.is_chosen() {
+        if self.plan.next_fails() {
             return Err(self.fail());
         }
         match self.coming.pop_front() {

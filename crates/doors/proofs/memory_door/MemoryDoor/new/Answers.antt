@@ -1,6 +1,5 @@
-use Rattle.std.proofs.Common.{◌∷◌, Some, sym, subst, All}
+use Rattle.std.proofs.Common.{Some, sym, subst, All}
 use Rattle.std.proofs.lemmas.List.Elements.{All-cons, All-pop}
-use Rattle.links.specs.Memory.{MemoryLinkState}
 use Rattle.doors.specs.MemoryDoors.{IsUnusedLink}
 use Rattle.doors.proofs.Filling.{moved, moved-room}
 use Rattle.doors.proofs.memory_door.MemoryDoor.new.Goals as goal
