@@ -61,7 +61,7 @@ module _ {T : Type 0} where
   LosesFront (Some before) items None = ⊥
   LosesFront (Some before) items (Some after) = before ≡ items ++ after
 
-  -- these came back last, and so many were handed out
+  -- these came back last, and N were handed out
   abbrev pub GainsLast : Option (Returns T) → List T → ℕ → Option (Returns T) → Type 0
   GainsLast None back given after = after ≡ None
   GainsLast (Some r) back given None = ⊥

@@ -16,7 +16,7 @@ pub(crate) fn word_of(codec: Codec) -> &'static str
     }
 }
 
-/// Appends the words for how a round ended. At NoMemory some of them may stand there.
+/// Appends the words for how a round ended. At NoMemory some of them may be there.
 #[tactic(auto, unfolding(crate::specs::Ends::device_end_words))]
 pub fn push_device_end(text: &mut Vec<u8>, end: DeviceEnd) -> Result<(), NoMemory>
     ensures { OnOk result (text.new.items ≡ text.old.items ++ device_end_words end) }
@@ -45,7 +45,7 @@ fn push_fault(text: &mut Vec<u8>, fault: Fault) -> Result<(), NoMemory>
     Ok(())
 }
 
-/// Appends the words for how a session ended. At NoMemory some of them may stand there.
+/// Appends the words for how a session ended. At NoMemory some of them may be there.
 #[tactic(auto, unfolding(crate::specs::Ends::server_end_words))]
 pub fn push_server_end(text: &mut Vec<u8>, end: ServerEnd) -> Result<(), NoMemory>
     ensures { OnOk result (text.new.items ≡ text.old.items ++ server_end_words end) }

@@ -196,7 +196,7 @@ module _ (served : Served) (mark : Mark) (taken : List ℕ) (all : List Brought)
   same-imei : (x y : ℕ) (o : Option ℕ) → o ≡ Some x → o ≡ Some y → x ≡ y
   same-imei x y o p q = let e : Some x ≡ Some y = sym p ∙ q in cc
 
-  -- A record that one of its calls brought is its device's, and stands in the frames that were counted or in the one after them.
+  -- A record that one of its calls brought is its device's, and is in the frames that were counted or in the one after them.
   pub call-in-frames : (b : Brought) (r : Record) → In all b → In b.records r → (served.imei ≡ Some b.imei) × In (records_of_first (served.frames + 1) taken) r
   call-in-frames b r made is =
       elim (in-append a.counted a.more b (subst (λ (bs : List Brought). In bs b) a.are made)) as (λ _. (served.imei ≡ Some b.imei) × In (records_of_first (served.frames + 1) taken) r) [
