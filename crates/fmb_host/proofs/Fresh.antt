@@ -1,7 +1,10 @@
 -- Things to come that weren't used yet: the first of them is handed out, and one more is added.
-use Rattle.std.proofs.Common.{◌≡◌, List, [], ◌∷◌, ◌++◌, Result, Ok, Err, OnOk, OnErr, ap, sym, subst}
+use Rattle.std.proofs.Common.{◌≡◌, refl, ℕ, List, [], ◌∷◌, ◌++◌, Result, Ok, Err, OnOk, OnErr, ap, sym, subst}
 use Rattle.std.specs.List.{AllByRecursion}
-use Rattle.fmb_host.specs.Memory.{QueueView}
+use Rattle.doors.specs.MemoryDoors.{MemoryDoorState, unopened}
+use Rattle.fmb_host.specs.Host.{IsNewDoor}
+use Rattle.fmb_host.specs.Memory.{QueueView, gate_state}
+use Rattle.links.specs.Memory.{MemoryLinkState}
 
 module _ {T : Type 0} (P : T → Type 0) where
   pub fresh_first : (old new : List T) (x : T) → old ≡ x ∷ new → AllByRecursion P old → P x × AllByRecursion P new
@@ -15,3 +18,7 @@ module _ {T : Type 0} (P : T → Type 0) where
       → AllByRecursion P old.coming → P x → AllByRecursion P new.coming
   fresh_added (Ok u) old new x ok err all one = subst (AllByRecursion P) (sym (ap (λ (q : QueueView T). q.coming) ok)) (fresh_last old.coming x all one)
   fresh_added (Err e) old new x ok err all one = subst (AllByRecursion P) (sym (ap (λ (q : QueueView T). q.coming) err)) all
+
+-- A door that was made just now is new.
+pub new_door : (door : MemoryDoorState) (links : List MemoryLinkState) (failing : List ℕ) → door ≡ unopened links failing → IsNewDoor (gate_state door)
+new_door door links failing is = subst (λ (d : MemoryDoorState). IsNewDoor (gate_state d)) (sym is) (record { faults = refl; link_faults = refl; back = refl })

@@ -1,3 +1,7 @@
+ghost use Rattle.std.specs.Prelude.{IfSome};
+ghost use Rattle.fmb_host.specs.Host.{IsNewDoor};
+ghost use Rattle.fmb_host.specs.Memory.{gate_state};
+
 use crate::{Counts, Host, MemoryHost};
 use doors::{Door, MemoryDoor};
 use links::MemoryLink;
@@ -58,13 +62,24 @@ fn give_back(host: &mut MemoryHost, medium: MemoryMedium, link: MemoryLink, door
     host.door_back(door);
 }
 
+/// A door without links.
+#[tactic(auto, using(crate::proofs::Fresh::new_door))]
+fn new_door(alloc: Global) -> Option<MemoryDoor>
+    ensures { IfSome result (λ door. IsNewDoor (gate_state door)) }
+{
+    match MemoryDoor::new(alloc, Vec::new(alloc), &[]) {
+        Ok(door) => Some(door),
+        Err(_) => None,
+    }
+}
+
 /// A host with a medium that fails at its first call, a link, and a door without links. Its call 2 fails.
 fn filled(alloc: Global) -> Option<MemoryHost> {
     let sink = MemorySink::new(alloc, 4, &[]).ok()?;
     let mut host = MemoryHost::new(alloc, sink, &[2]).ok()?;
     let medium = MemoryMedium::new(alloc, b"abc", &[0]).ok()?;
     let link = MemoryLink::new(alloc, b"ab", 1, 0, &[]).ok()?;
-    let door = MemoryDoor::new(alloc, Vec::new(alloc), &[]).ok()?;
+    let door = new_door(alloc)?;
     host.add_medium(medium).ok()?;
     host.add_link(link).ok()?;
     host.add_door(door).ok()?;
