@@ -1,7 +1,5 @@
--- A `late` line: a session of an earlier line takes more bytes, in the words of its connection's log; and what is kept of sessions
--- between lines.
-use Rattle.std.proofs.Common.{◌≡◌, ◌≤◌, ◌<◌, ◌^◌, inl, inr, ℕ, Bool, true, false, List, [], ◌++◌, length, take, Option, Some, None, is_none, IfNone, refl, sym, ◌∙◌, ap, subst, arith, length-append, if◌then◌else◌}
-use Rattle.std.proofs.lemmas.Bool.{false≢true}
+-- A `late` line: a session of an earlier line takes more bytes, in the words of its connection's log.
+use Rattle.std.proofs.Common.{◌≡◌, ◌≤◌, ◌<◌, ◌^◌, inl, inr, ℕ, Bool, true, false, List, [], ◌++◌, length, take, Option, Some, None, is_none, IfNone, refl, ap, subst, arith, length-append}
 use Rattle.avl_values.specs.Record.{Record}
 use Rattle.frame_layout.specs.Values.{UpValue}
 use Rattle.item_streams.specs.Streams.{Item}
@@ -18,13 +16,13 @@ use Rattle.trial_model.specs.declared.outcome.ServerEnd.TheVariants as Server
 use Rattle.trial_model.specs.declared.script.ScriptLine.{ScriptLine}
 use Rattle.trial_model.specs.Connections.{ConnectionHistory, plus, up_to}
 use Rattle.trial_model.specs.Logs.{IsSent, IsWholeStream, answers_to}
-use Rattle.trial_wire.specs.Connections.{Connection, IsConnectionSound, IsFed, cut_by_power, fed, shut}
-use Rattle.trial_wire.specs.Hearing.{HasTaken, Hears, Stands, items_in, rest_in}
+use Rattle.trial_wire.specs.Connections.{Connection, IsConnectionSound, IsFed, fed}
+use Rattle.trial_wire.specs.Hearing.{Hears, Stands, items_in, rest_in}
 use Rattle.trial_wire.specs.WireLinks.{Passes}
 use Rattle.trial_wire.proofs.Logs.{answers-most, sent-fed}
 use Rattle.trial_wire.proofs.Passing.{up_to-least}
 use Rattle.trial_wire.proofs.Rounding.{going-fed, over-fed}
-use Rattle.trial_talks.specs.Rounds.{IsKept, server_by}
+use Rattle.trial_talks.specs.Rounds.{server_by}
 use Rattle.trial_talks.proofs.Starting.{going-hears}
 
 -- The place up to which a `late` line's bytes go: no further back, and by the line's number from where the session stands.
@@ -94,23 +92,3 @@ module _ (lines : List ScriptLine) (logs : List ConnectionOutcome) (known : Know
     | inl none ↦ absurd (sent-some none)
     | inr sent ↦ fed-by sent.bodies sent.are sent.is ended stands-now p.all memory
   ]
-
-  -- one that still goes on has read the bytes up to there
-  pub late-kept : (server : ServerEnd) → IsKept (record { log = fed w.log b p.wrote server; going = is_none ended }) now
-  late-kept server = record { taken = λ on. by ended on p.taken p.all }
-    where
-      by : (e : Option ServerEnd) → is_none e ≡ true → IfNone e (HasTaken (take at w.log.up) now) → IfNone e (at ≡ b) → HasTaken (take b w.log.up) now
-      by None on has all = subst (λ (place : ℕ). HasTaken (take place w.log.up) now) all has
-      by (Some end) on has all = absurd (false≢true on)
-
--- A session whose end was seen, or that the server's power loss ended, is kept no longer.
-
-pub kept-shut : (w : Connection) (s : SessionState) → IsKept (shut w) s
-kept-shut w s = record { taken = λ on. absurd (false≢true on) }
-
-pub kept-cut : (w : Connection) (s : SessionState) → IsKept (cut_by_power w) s
-kept-cut w s = record { taken = λ on. absurd (never w.going refl on) }
-  where
-    never : (g : Bool) → w.going ≡ g → (if w.going then record { log = record w.log { server = Server.Restart }; going = false } else w).going ≡ true → ⊥
-    never true is on = false≢true (sym (ap (λ (g : Bool). (let x : Connection = if g then record { log = record w.log { server = Server.Restart }; going = false } else w in x.going)) is) ∙ on)
-    never false is on = false≢true (sym (ap (λ (g : Bool). (let x : Connection = if g then record { log = record w.log { server = Server.Restart }; going = false } else w in x.going)) is ∙ is) ∙ on)

@@ -1,5 +1,6 @@
 pub mod Answering
 pub mod Bodies
+pub mod Keeping
 pub mod Late
 pub mod NoCommands
 pub mod Rounds

@@ -1,10 +1,12 @@
 -- A `round` or `drain` line: the round of a device over the wire of its line, in the words of the connection's log.
-use Rattle.std.proofs.Common.{◌≡◌, ◌≤◌, ◌<◌, ◌^◌, ℕ, nat_le, Bool, true, false, List, [], length, take, Option, Some, None, Result, Ok, is_none, IfNone, refl, sym, ◌∙◌, ap, subst, arith, length-take-le}
+use Rattle.std.proofs.Common.{inl, inr, Err, ◌≡◌, ◌≤◌, ◌<◌, ◌^◌, ℕ, nat_le, Bool, true, false, List, [], length, take, Option, Some, None, Result, Ok, is_none, IfNone, refl, sym, ◌∙◌, ap, subst, arith, length-take-le}
+use Rattle.avl_values.specs.Causes.{Rose}
 use Rattle.avl_values.specs.Record.{Record}
 use Rattle.avl_values.specs.declared.errors.MediumFault.{MediumFault}
 use Rattle.layout.specs.Bytes.{AreBytes}
 use Rattle.layout.proofs.Numbers.{bytes-take}
 use Rattle.flash_ring.specs.Entries.{held_of}
+use Rattle.flash_ring.specs.Records.{recs_in}
 use Rattle.flash_ring.specs.Ring.{RingView}
 use Rattle.links.specs.Links.{Traffic}
 use Rattle.session_core.specs.declared.known.Known.{Known}
@@ -13,7 +15,11 @@ use Rattle.shelf.specs.Shelf.{ShelfView}
 use Rattle.tracker_session.specs.RingRounds.{RoundsRing}
 use Rattle.tracker_session.specs.Sending.{AreSentBodies, stream_up}
 use Rattle.tracker_session.specs.Talks.{AreRightAnswers, HearsNoCommand, IsRightEnd, RoundTalks}
-use Rattle.tracker_session.specs.WholeRounds.{TalksWhere}
+use Rattle.tracker_session.specs.WholeRounds.{IsWholeRound, TalksWhere}
+use Rattle.tracker_session.specs.Responses.{ShellMeaning}
+use Rattle.tracker_session.specs.RoundStates.{Round, RoundState, starts}
+use Rattle.tracker_session.specs.Rounds.{Ends, IsRound, cut, empty, talked}
+use Rattle.tracker_session.specs.Turns.{BreaksWith}
 use Rattle.tracker_session.proofs.Exports.{right_answers_end_right}
 use Rattle.tracker_session.specs.declared.round_end.RoundEnd.{RoundEnd}
 use Rattle.tracker_session.specs.declared.round_end.RoundEnd.TheVariants as end
@@ -23,22 +29,22 @@ use Rattle.trial_model.specs.declared.outcome.ServerEnd.TheVariants as Server
 use Rattle.trial_model.specs.Answers.{HasDeviceEnd}
 use Rattle.trial_model.specs.Connections.{up_to}
 use Rattle.trial_model.specs.Delivery.{heard_of}
-use Rattle.trial_model.specs.Frames.{records_in}
+use Rattle.trial_model.specs.Frames.{Frame, records_in}
 use Rattle.trial_model.specs.Logs.{HasFewFrames, IsSent, IsWholeStream}
 use Rattle.trial_model.specs.RecordLists.{AreIn}
 use Rattle.trial_model.specs.Script.{Opening}
 use Rattle.trial_server.specs.Serving.{left_by}
 use Rattle.trial_wire.specs.Connections.{HasFrame, IsHeard, IsRounded}
-use Rattle.trial_wire.specs.Hearing.{HasTaken, Stands, rest_in}
+use Rattle.trial_wire.specs.Hearing.{Stands, end_now, rest_in}
 use Rattle.trial_wire.specs.WireLinks.{Follows, IsWire, WireState, link_state, new_wire}
 use Rattle.trial_wire.proofs.Changing.{good-now}
 use Rattle.trial_wire.proofs.Living.{going-end, going-heard, over-ended}
 use Rattle.trial_wire.proofs.Passing.{up_to-least}
 use Rattle.trial_wire.proofs.Rounding.{going-rounded, over-rounded}
-use Rattle.trial_talks.specs.Rounds.{IsKept, log_of, server_by}
+use Rattle.trial_talks.specs.Rounds.{HasRounded, log_of, server_by}
 use Rattle.trial_talks.proofs.Answering.{down-most, right-all, right-heard}
 use Rattle.trial_talks.proofs.NoCommands.{stands-plain}
-use Rattle.trial_talks.proofs.Starting.{wire-live}
+use Rattle.trial_talks.proofs.Starting.{empty-rounded, empty_log, no-rest, none-heard-of, wire-live}
 use Rattle.trial_talks.proofs.Talking.{talk-device, talk-few, talk-frame, talk-ring, talk-sent, talk-stream}
 
 -- The session's half says what was written.
@@ -145,6 +151,68 @@ module _ (known : Known) (o : Opening) (most : ℕ) (result : Result RoundEnd Me
           over-rounded (knows known) cover earlier o talk.bodies talk.are log s w.shelf refl digits up-is within read round-stream sent few-frames device frame end over
           (ap (λ (e : Option ServerEnd). server_by e (length (rest_in (take w.given w.up)))) is) (λ e. memory (is ∙ ap (λ (x : ServerEnd). Some x) e)) given-low
 
-  -- a session that goes on has read what the log says
-  pub round-kept : (going : Bool) → (going ≡ true → w.ended ≡ None) → IsKept (record { log = log; going = going }) w.session
-  round-kept going goes = record { taken = λ on. subst (λ (e : Option ServerEnd). IfNone e (HasTaken (take w.given w.up) w.session)) (goes on) wire.taken }
+-- A round that sent nothing: its wire is as it was.
+module _ (known : Known) (o : Opening) (s : ShelfView) where
+  -- the end of a session that has heard nothing
+  empty-log : log_of o.imei (Ok end.Empty) (new_wire s known o.up o.down) ≡ empty_log o.imei
+  empty-log = ap (λ (e : ServerEnd). (let l : ConnectionOutcome = record (empty_log o.imei) { server = e } in l)) (ap (λ (r : List ℕ). end_now (length r)) no-rest)
+
+-- it kept its ring
+module _ {S : Type 0} (m : ShellMeaning S) (r : Round S) (rose : Type 0) where
+  none-counted : (result : Result RoundEnd MediumFault) (d : RoundState S) (old new : RingView) (t : S) (x y : Option Traffic) → result ≡ Ok end.Empty → IsRound m r rose d old new t x y result → d ≡ starts r
+  none-counted result d old new t x y is (empty none at same shell told) = at
+  none-counted result d old new t x y is (cut at same shell part up) = at
+  none-counted result d old new t x y is (talked same taken z login known ends) = absurd (never (let P : Result RoundEnd MediumFault → Type 0 = λ e. Ends m r rose e taken d old new t z y in subst P is ends))
+    where
+      never : Ends m r rose (Ok end.Empty) taken d old new t z y → ⊥
+      never stopped = stopped.stops
+
+  pub empty-ring : (old new : RingView) (t : S) (x y : Option Traffic) → IsWholeRound m r rose old new t x y (Ok end.Empty) → RoundsRing (Ok end.Empty) 0 [] old new
+  empty-ring old new t x y whole =
+      subst (λ (d : RoundState S). RoundsRing (Ok end.Empty) d.frames (recs_in old.slots d.closed) old new) (none-counted (Ok end.Empty) whole.state old new t x y refl whole.goes) whole.ring
+
+-- A line's round, whatever it sent, by the contracts of the round and of the wire.
+module _ {S : Type 0} (m : ShellMeaning S) (r : Round S) (t : S) (known : Known) (o : Opening) (most : ℕ) (result : Result RoundEnd MediumFault) (old new : RingView) (s : ShelfView) (w : WireState) (earlier : List Record)
+    (cover : Option ℕ) (digits : o.imei < 10 ^ 15) (up : s.down ≡ false) (follows : Follows (new_wire s known o.up o.down) w) (wire : IsWire w) (bytes : AreBytes w.up) (memory : w.ended ≡ Some Server.NoMemory → ⊥)
+    (calm : Rose (link_state (new_wire s known o.up o.down)).faults (link_state w).faults → ⊥)
+    (round : IsWholeRound m r (Rose (link_state (new_wire s known o.up o.down)).faults (link_state w).faults) old new t (link_state (new_wire s known o.up o.down)).told (link_state w).told result)
+    (talks : (Rose (link_state (new_wire s known o.up o.down)).faults (link_state w).faults → ⊥) → (result ≡ Ok end.Empty → ⊥) → TalksWhere o.imei most result old new (link_state (new_wire s known o.up o.down)).told (link_state w).told)
+    (nothing : result ≡ Ok end.Empty → w ≡ new_wire s known o.up o.down) (broken : BreaksWith result (link_state (new_wire s known o.up o.down)) (link_state w))
+    (decided : AreIn earlier (held_of old.slots)) (left : old.medium.left ≡ left_by cover) (few : o.drains ≡ false → most ≤ 1) where
+  at-end : result ≡ Ok end.Broken → (link_state w).ended ≡ true
+  at-end is = elim (broken.cause is) as (λ _. (link_state w).ended ≡ true) [
+    | inl ended ↦ ended
+    | inr rose ↦ absurd (calm rose)
+  ]
+
+  talked-line : (result ≡ Ok end.Empty → ⊥) → HasRounded known o cover earlier result old new s w
+  talked-line some =
+      let one = round-rounded known o most result old new s w earlier cover digits up follows wire bytes memory (talks calm some) at-end decided left few in
+      record {
+        failed = one.0;
+        rounded = one.1;
+        ring = round-ring known o most result old new s w earlier cover digits up follows wire bytes memory (talks calm some) at-end decided left few;
+      }
+
+  -- nothing was held
+  empty-line : result ≡ Ok end.Empty → HasRounded known o cover earlier result old new s w
+  empty-line is = subst (λ (z : Result RoundEnd MediumFault × WireState). HasRounded known o cover earlier z.0 old new s z.1) (λ i. (sym is i, sym (nothing is) i)) (record {
+    failed = false;
+    rounded = subst (λ (c : ConnectionOutcome). IsRounded (knows known o.imei) false cover earlier o c true s s) (sym (empty-log known o s)) (empty-rounded (knows known o.imei) cover earlier o s);
+    ring = subst (λ (c : ConnectionOutcome). RoundsRing (Ok end.Empty) (length (heard_of c)) (records_in (heard_of c)) old new) (sym (empty-log known o s))
+        (subst (λ (fs : List Frame). RoundsRing (Ok end.Empty) (length fs) (records_in fs) old new) (sym (none-heard-of o.imei))
+        (empty-ring m r (Rose (link_state (new_wire s known o.up o.down)).faults (link_state w).faults) old new t (link_state (new_wire s known o.up o.down)).told (link_state w).told
+        (subst (λ (e : Result RoundEnd MediumFault). IsWholeRound m r (Rose (link_state (new_wire s known o.up o.down)).faults (link_state w).faults) old new t (link_state (new_wire s known o.up o.down)).told (link_state w).told e) is round)));
+  })
+
+  pub line-rounded : HasRounded known o cover earlier result old new s w
+  line-rounded = by result refl
+    where
+      by : (e : Result RoundEnd MediumFault) → result ≡ e → HasRounded known o cover earlier result old new s w
+      by (Ok (end.Done n)) is = talked-line (λ q. (let p : ◌≡◌ {A = Result RoundEnd MediumFault} (Ok (end.Done n)) (Ok end.Empty) = sym is ∙ q in cc))
+      by (Ok end.Empty) is = empty-line is
+      by (Ok end.Refused) is = talked-line (λ q. (let p : ◌≡◌ {A = Result RoundEnd MediumFault} (Ok end.Refused) (Ok end.Empty) = sym is ∙ q in cc))
+      by (Ok end.Broken) is = talked-line (λ q. (let p : ◌≡◌ {A = Result RoundEnd MediumFault} (Ok end.Broken) (Ok end.Empty) = sym is ∙ q in cc))
+      by (Ok (end.WrongAnswer got)) is = talked-line (λ q. (let p : ◌≡◌ {A = Result RoundEnd MediumFault} (Ok (end.WrongAnswer got)) (Ok end.Empty) = sym is ∙ q in cc))
+      by (Ok end.TooManyCommands) is = talked-line (λ q. (let p : ◌≡◌ {A = Result RoundEnd MediumFault} (Ok end.TooManyCommands) (Ok end.Empty) = sym is ∙ q in cc))
+      by (Err fault) is = talked-line (λ q. (let p : ◌≡◌ {A = Result RoundEnd MediumFault} (Err fault) (Ok end.Empty) = sym is ∙ q in cc))

@@ -1,5 +1,5 @@
 -- Before the first byte of a line: a new wire, and a session that goes on from earlier lines.
-use Rattle.std.proofs.Common.{◌≡◌, ◌≤◌, ◌<◌, ◌^◌, ◌⊎◌, inl, inr, ℕ, zero, suc, ◌-◌, ◌&&◌, nat_le, nat_lt, Bool, true, false, List, [], ◌∷◌, length, take, Option, Some, None, refl, sym, ◌∙◌, ap, subst, arith, append-nil, if◌then◌else◌}
+use Rattle.std.proofs.Common.{◌/◌, ◌≡◌, ◌≤◌, ◌<◌, ◌^◌, ◌⊎◌, inl, inr, ℕ, zero, suc, ◌-◌, ◌&&◌, nat_le, nat_lt, Bool, true, false, List, [], ◌∷◌, length, take, Option, Some, None, refl, sym, ◌∙◌, ap, subst, arith, append-nil, if◌then◌else◌}
 use Rattle.std.specs.List.{filter}
 use Rattle.std.proofs.lemmas.Bool.{cases_lt, true≢false}
 use Rattle.avl_values.specs.Record.{Record}
@@ -20,13 +20,13 @@ use Rattle.trial_model.specs.declared.script.ScriptLine.{ScriptLine}
 use Rattle.trial_model.specs.Answers.{counted_of}
 use Rattle.trial_model.specs.Connections.{ConnectionHistory, up_to}
 use Rattle.trial_model.specs.Cover.{IsBelow}
-use Rattle.trial_model.specs.Delivery.{delivered_of}
+use Rattle.trial_model.specs.Delivery.{delivered_of, heard_of}
 use Rattle.trial_model.specs.Frames.{Frame, counts_of, frames_from, frames_of, frames_within, login_size}
 use Rattle.trial_model.specs.Logs.{HasFewFrames}
 use Rattle.trial_model.specs.Script.{Opening}
 use Rattle.trial_server.specs.Serving.{Serves}
 use Rattle.trial_wire.specs.Connections.{Connection, IsConnectionSound, IsEndNow, IsFed, IsHeard, IsRounded, fed}
-use Rattle.trial_wire.specs.Hearing.{Hears, answers, as_frames, device_in, items_in}
+use Rattle.trial_wire.specs.Hearing.{Hears, answers, as_frames, device_in, items_in, rest_in}
 use Rattle.trial_wire.specs.WireLinks.{IsLive, new_wire}
 use Rattle.trial_wire.proofs.Changing.{good-now}
 use Rattle.trial_wire.proofs.Filters.{between-some}
@@ -35,6 +35,9 @@ use Rattle.trial_wire.proofs.Living.{device-is, first, long-items, packets, pack
 -- no bytes have no items
 pub no-items : items_in [] ≡ []
 no-items = ap (λ (r : Reading UpValue). r.items) (nothing_read (up_rows false) (up_rows true) 0 [] (subst IsNotWhole (sym (starts_short_up false)) tt))
+
+pub no-rest : rest_in [] ≡ []
+no-rest = ap (λ (r : Reading UpValue). r.rest) (nothing_read (up_rows false) (up_rows true) 0 [] (subst IsNotWhole (sym (starts_short_up false)) tt))
 
 -- a session that has heard nothing
 pub hears-nothing : (known : ℕ → Bool) (s : ShelfView) (items : List (Item UpValue)) → s.down ≡ false → items ≡ [] → Hears known [] s items [] s
@@ -69,6 +72,10 @@ none-within n = ap (λ (fs : List Frame). within n fs) no-frames
 
 abbrev pub empty_log : ℕ → ConnectionOutcome
 empty_log imei = record { imei = imei; up = []; up_given = 0; down = []; down_given = 0; device = End.Empty; server = Server.Ended }
+
+-- nothing was heard
+pub none-heard-of : (imei : ℕ) → heard_of (empty_log imei) ≡ []
+none-heard-of imei = ap (λ (fs : List Frame). take ((0 - 1) / 4) fs) no-frames
 
 none-given : (limit : Option ℕ) → 0 ≡ up_to limit 0
 none-given None = refl
