@@ -41,7 +41,7 @@ use Rattle.trial_wire.proofs.Changing.{good-now}
 use Rattle.trial_wire.proofs.Living.{going-end, going-heard, over-ended}
 use Rattle.trial_wire.proofs.Passing.{up_to-least}
 use Rattle.trial_wire.proofs.Rounding.{going-rounded, over-rounded}
-use Rattle.trial_talks.specs.Rounds.{HasRounded, log_of, server_by}
+use Rattle.trial_talks.specs.Rounds.{HasRounded, RoundsOver, log_of, server_by}
 use Rattle.trial_talks.proofs.Answering.{down-most, right-all, right-heard}
 use Rattle.trial_talks.proofs.NoCommands.{stands-plain}
 use Rattle.trial_talks.proofs.Starting.{empty-rounded, empty_log, no-rest, none-heard-of, wire-live}
@@ -172,37 +172,31 @@ module _ {S : Type 0} (m : ShellMeaning S) (r : Round S) (rose : Type 0) where
       subst (λ (d : RoundState S). RoundsRing (Ok end.Empty) d.frames (recs_in old.slots d.closed) old new) (none-counted (Ok end.Empty) whole.state old new t x y refl whole.goes) whole.ring
 
 -- A line's round, whatever it sent, by the contracts of the round and of the wire.
-module _ {S : Type 0} (m : ShellMeaning S) (r : Round S) (t : S) (known : Known) (o : Opening) (most : ℕ) (result : Result RoundEnd MediumFault) (old new : RingView) (s : ShelfView) (w : WireState) (earlier : List Record)
-    (cover : Option ℕ) (digits : o.imei < 10 ^ 15) (up : s.down ≡ false) (follows : Follows (new_wire s known o.up o.down) w) (wire : IsWire w) (bytes : AreBytes w.up) (memory : w.ended ≡ Some Server.NoMemory → ⊥)
-    (calm : Rose (link_state (new_wire s known o.up o.down)).faults (link_state w).faults → ⊥)
-    (round : IsWholeRound m r (Rose (link_state (new_wire s known o.up o.down)).faults (link_state w).faults) old new t (link_state (new_wire s known o.up o.down)).told (link_state w).told result)
-    (talks : (Rose (link_state (new_wire s known o.up o.down)).faults (link_state w).faults → ⊥) → (result ≡ Ok end.Empty → ⊥) → TalksWhere o.imei most result old new (link_state (new_wire s known o.up o.down)).told (link_state w).told)
-    (nothing : result ≡ Ok end.Empty → w ≡ new_wire s known o.up o.down) (broken : BreaksWith result (link_state (new_wire s known o.up o.down)) (link_state w))
-    (decided : AreIn earlier (held_of old.slots)) (left : old.medium.left ≡ left_by cover) (few : o.drains ≡ false → most ≤ 1) where
+module _ (known : Known) (o : Opening) (most : ℕ) (result : Result RoundEnd MediumFault) (old new : RingView) (s : ShelfView) (w : WireState) (earlier : List Record) (cover : Option ℕ)
+    (digits : o.imei < 10 ^ 15) (up : s.down ≡ false) (over : RoundsOver o.imei most result old new (new_wire s known o.up o.down) w) (wire : IsWire w) (bytes : AreBytes w.up) (memory : w.ended ≡ Some Server.NoMemory → ⊥)
+    (calm : Rose (new_wire s known o.up o.down).faults w.faults → ⊥) (decided : AreIn earlier (held_of old.slots)) (left : old.medium.left ≡ left_by cover) (few : o.drains ≡ false → most ≤ 1) where
   at-end : result ≡ Ok end.Broken → (link_state w).ended ≡ true
-  at-end is = elim (broken.cause is) as (λ _. (link_state w).ended ≡ true) [
+  at-end is = elim (over.broken.cause is) as (λ _. (link_state w).ended ≡ true) [
     | inl ended ↦ ended
     | inr rose ↦ absurd (calm rose)
   ]
 
   talked-line : (result ≡ Ok end.Empty → ⊥) → HasRounded known o cover earlier result old new s w
   talked-line some =
-      let one = round-rounded known o most result old new s w earlier cover digits up follows wire bytes memory (talks calm some) at-end decided left few in
+      let one = round-rounded known o most result old new s w earlier cover digits up over.follows wire bytes memory (over.talks calm some) at-end decided left few in
       record {
         failed = one.0;
         rounded = one.1;
-        ring = round-ring known o most result old new s w earlier cover digits up follows wire bytes memory (talks calm some) at-end decided left few;
+        ring = round-ring known o most result old new s w earlier cover digits up over.follows wire bytes memory (over.talks calm some) at-end decided left few;
       }
 
   -- nothing was held
   empty-line : result ≡ Ok end.Empty → HasRounded known o cover earlier result old new s w
-  empty-line is = subst (λ (z : Result RoundEnd MediumFault × WireState). HasRounded known o cover earlier z.0 old new s z.1) (λ i. (sym is i, sym (nothing is) i)) (record {
+  empty-line is = subst (λ (z : Result RoundEnd MediumFault × WireState). HasRounded known o cover earlier z.0 old new s z.1) (λ i. (sym is i, sym (over.empty is).0 i)) (record {
     failed = false;
     rounded = subst (λ (c : ConnectionOutcome). IsRounded (knows known o.imei) false cover earlier o c true s s) (sym (empty-log known o s)) (empty-rounded (knows known o.imei) cover earlier o s);
     ring = subst (λ (c : ConnectionOutcome). RoundsRing (Ok end.Empty) (length (heard_of c)) (records_in (heard_of c)) old new) (sym (empty-log known o s))
-        (subst (λ (fs : List Frame). RoundsRing (Ok end.Empty) (length fs) (records_in fs) old new) (sym (none-heard-of o.imei))
-        (empty-ring m r (Rose (link_state (new_wire s known o.up o.down)).faults (link_state w).faults) old new t (link_state (new_wire s known o.up o.down)).told (link_state w).told
-        (subst (λ (e : Result RoundEnd MediumFault). IsWholeRound m r (Rose (link_state (new_wire s known o.up o.down)).faults (link_state w).faults) old new t (link_state (new_wire s known o.up o.down)).told (link_state w).told e) is round)));
+        (subst (λ (fs : List Frame). RoundsRing (Ok end.Empty) (length fs) (records_in fs) old new) (sym (none-heard-of o.imei)) (over.empty is).1);
   })
 
   pub line-rounded : HasRounded known o cover earlier result old new s w
@@ -216,3 +210,14 @@ module _ {S : Type 0} (m : ShellMeaning S) (r : Round S) (t : S) (known : Known)
       by (Ok (end.WrongAnswer got)) is = talked-line (λ q. (let p : ◌≡◌ {A = Result RoundEnd MediumFault} (Ok (end.WrongAnswer got)) (Ok end.Empty) = sym is ∙ q in cc))
       by (Ok end.TooManyCommands) is = talked-line (λ q. (let p : ◌≡◌ {A = Result RoundEnd MediumFault} (Ok end.TooManyCommands) (Ok end.Empty) = sym is ∙ q in cc))
       by (Err fault) is = talked-line (λ q. (let p : ◌≡◌ {A = Result RoundEnd MediumFault} (Err fault) (Ok end.Empty) = sym is ∙ q in cc))
+
+-- over a wire that was new
+pub new-rounded : (known : Known) (o : Opening) (most : ℕ) (result : Result RoundEnd MediumFault) (old new : RingView) (s : ShelfView) (a w : WireState) (earlier : List Record) (cover : Option ℕ)
+    → o.imei < 10 ^ 15 → s.down ≡ false → a ≡ new_wire s known o.up o.down → RoundsOver o.imei most result old new a w → IsWire w → AreBytes w.up → (w.ended ≡ Some Server.NoMemory → ⊥) → w.faults ≡ 0
+    → AreIn earlier (held_of old.slots) → old.medium.left ≡ left_by cover → (o.drains ≡ false → most ≤ 1) → HasRounded known o cover earlier result old new s w
+new-rounded known o most result old new s a w earlier cover digits up is over wire bytes memory none decided left few =
+    line-rounded known o most result old new s w earlier cover digits up (subst (λ (x : WireState). RoundsOver o.imei most result old new x w) is over) wire bytes memory
+    (λ rose. never-rose w.faults none rose) decided left few
+  where
+    never-rose : (n : ℕ) → n ≡ 0 → Rose 0 n → ⊥
+    never-rose n none rose = omega (arith, none, rose)
