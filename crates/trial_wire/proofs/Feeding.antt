@@ -40,7 +40,8 @@ heard-unknown known c h zero_down = elim (cases_lt c.up_given login_size) as (λ
         first a b xs ys e = cc
     by long false is = (h.stranger long is).1
 
-serves-some : (imei : ℕ) (fs : List Frame) (s t : ShelfView) → Serves imei true fs s t → 1 ≤ length fs
+-- where the medium failed there was a frame
+pub serves-some : (imei : ℕ) (fs : List Frame) (s t : ShelfView) → Serves imei true fs s t → 1 ≤ length fs
 serves-some imei [] s t (good, same) = absurd (true≢false good)
 serves-some imei (f ∷ fs) s t serves = omega arith
 

@@ -1,0 +1,11 @@
+pub mod Places
+pub mod Steps
+pub mod KeptLogs
+pub mod Given
+pub mod Connections
+pub mod ChangedOne
+pub mod Late
+pub mod Opening
+pub mod ServerLines
+pub mod Sides
+pub mod Playing
