@@ -24,7 +24,7 @@ use Rattle.trial_wire.specs.Connections.{Connection, IsRounded}
 use Rattle.trial_wire.specs.Hearing.{HasTaken, end_now, rest_in}
 use Rattle.trial_wire.specs.WireLinks.{Follows, WireState, link_state}
 
--- how a session ended, or would end now, with so many bytes of an unfinished item
+-- how a session ended, or would end now, with N bytes of an unfinished item
 abbrev pub server_by : Option ServerEnd → ℕ → ServerEnd
 server_by None have = end_now have
 server_by (Some end) have = end
