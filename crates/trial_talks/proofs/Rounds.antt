@@ -171,6 +171,11 @@ module _ {S : Type 0} (m : ShellMeaning S) (r : Round S) (rose : Type 0) where
   empty-ring old new t x y whole =
       subst (λ (d : RoundState S). RoundsRing (Ok end.Empty) d.frames (recs_in old.slots d.closed) old new) (none-counted (Ok end.Empty) whole.state old new t x y refl whole.goes) whole.ring
 
+pub empty-ring-of : {S : Type 0} {m : ShellMeaning S} {r : Round S} {rose : Type 0} {t : S} {x y : Option Traffic} → (result : Result RoundEnd MediumFault) (old new : RingView) → result ≡ Ok end.Empty → IsWholeRound m r rose old new t x y result
+    → RoundsRing (Ok end.Empty) 0 [] old new
+empty-ring-of {m = m} {r = r} {rose = rose} {t = t} {x = x} {y = y} result old new is whole =
+    empty-ring m r rose old new t x y (subst (λ (e : Result RoundEnd MediumFault). IsWholeRound m r rose old new t x y e) is whole)
+
 -- A line's round, whatever it sent, by the contracts of the round and of the wire.
 module _ (known : Known) (o : Opening) (most : ℕ) (result : Result RoundEnd MediumFault) (old new : RingView) (s : ShelfView) (w : WireState) (earlier : List Record) (cover : Option ℕ)
     (digits : o.imei < 10 ^ 15) (up : s.down ≡ false) (over : RoundsOver o.imei most result old new (new_wire s known o.up o.down) w) (wire : IsWire w) (bytes : AreBytes w.up) (memory : w.ended ≡ Some Server.NoMemory → ⊥)

@@ -1,3 +1,7 @@
-//! The device's half of a trial's rounds, as definitions and lemmas with no code: what a round of the tracker says over the wire of a
-//! trial, in the words of a connection's log.
+//! One connection of a trial: a device's round over its line's wire, joined with what the server's session did, in the words of the
+//! connection's log; a line that gives a session more; and which sessions are kept between lines.
 #![tactic(auto)]
+
+mod connecting;
+
+pub use connecting::{Carried, ConnectionLine};
