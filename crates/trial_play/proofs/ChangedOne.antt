@@ -54,7 +54,7 @@ module _ (devices : List Device) (lines : List ScriptLine) (l : ScriptLine) (f :
   -- It is given nothing, and each other one stays.
   pub changed-connections : (new : List Connection) → length new ≡ length ws → logs_of new ≡ logs_of ws
       → ((k : ℕ) (v : Connection) → slice_get new k ≡ Some v → (w : Connection) × (slice_get ws k ≡ Some w) × (v.log ≡ w.log)
-        × (number ≡ suc k → (h : ConnectionHistory) → IsSoundBy devices lines (logs_of ws) k h w → IsSoundBy devices lines (logs_of ws) k (f h) v) × ((number ≡ suc k → ⊥) → v ≡ w))
+      × (number ≡ suc k → (h : ConnectionHistory) → IsSoundBy devices lines (logs_of ws) k h w → IsSoundBy devices lines (logs_of ws) k (f h) v) × ((number ≡ suc k → ⊥) → v ≡ w))
       → AreConnectionsSound devices (lines ++ l ∷ []) histories new
   changed-connections new size logs from = record {
     as_many = size ∙ (sound.as_many ∙ sym changed-count);

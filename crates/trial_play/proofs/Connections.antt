@@ -74,7 +74,7 @@ pub same-history : (devices : List Device) (lines : List ScriptLine) (logs : Lis
     → IsConnectionSound lines logs (known_by devices h) (cover_by h) (earlier_by devices logs h) n k w → IsSoundBy devices lines logs n k w
 same-history devices lines logs n h k w before line opening sound =
     subst (λ (z : List ScriptLine × ScriptLine × Opening). IsConnectionSound lines logs (is_known z.2.imei devices) (cover_on (Who.Device z.2.imei) (fuse_of (Who.Device z.2.imei) z.0) z.1)
-        (earlier_records z.2.imei devices (steps_of z.0 (ends_of logs))) n k w)
+    (earlier_records z.2.imei devices (steps_of z.0 (ends_of logs))) n k w)
     (λ i. (sym before i, sym line i, sym opening i)) sound
 
 -- The server's power loss.
@@ -120,7 +120,7 @@ connections-restarted devices lines hs ws s = record {
         let sound = s.each n h w at_h at_w in
         let cut = restarted-sound lines (logs_of ws) (known_by devices h) (cover_by h) (earlier_by devices (logs_of ws) h) n h w sound in
         let now = logs-sound lines (logs_of ws) (logs_of (map cut_by_power ws)) (known_by devices h) (cover_by h) (earlier_by devices (logs_of ws) h) n (restarted h) (cut_by_power w)
-            (sent-kept lines (logs_of ws) (logs_of (map cut_by_power ws)) (cut_by_power w).log.imei (kept-cut ws)) cut in
+        (sent-kept lines (logs_of ws) (logs_of (map cut_by_power ws)) (cut_by_power w).log.imei (kept-cut ws)) cut in
         let ends = subst (λ rs. IsConnectionSound lines (logs_of (map cut_by_power ws)) (known_by devices h) (cover_by h) rs n (restarted h) (cut_by_power w)) (sym (earlier-kept devices (logs_of ws) (logs_of (map cut_by_power ws)) h (kept-cut ws))) now in
         subst (λ (z : ConnectionHistory × Connection). IsSoundBy devices lines (logs_of (map cut_by_power ws)) n z.0 z.1) (λ i. (sym is_h i, sym is_w i))
         (same-history devices lines (logs_of (map cut_by_power ws)) n h (restarted h) (cut_by_power w) (restarted-before h) (restarted-line h) (restarted-opening h) ends)

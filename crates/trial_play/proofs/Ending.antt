@@ -1,5 +1,5 @@
 -- The headline, from what is true of a trial after its last line.
-use Rattle.std.proofs.Common.{◌≡◌, ◌≤◌, ◌⊎◌, inl, inr, ℕ, zero, suc, ◌+◌, ◌==◌, ◌||◌, Bool, true, false, List, [], ◌∷◌, ◌++◌, fold, length, map, slice_get, Some, if◌then◌else◌, refl, sym, ◌∙◌, ap, subst, arith, eqb-true, length-append}
+use Rattle.std.proofs.Common.{◌≡◌, ◌≤◌, ◌⊎◌, inl, inr, ℕ, suc, ◌+◌, ◌==◌, ◌||◌, Bool, true, false, List, [], ◌∷◌, ◌++◌, fold, length, map, slice_get, Some, if◌then◌else◌, refl, sym, ◌∙◌, ap, subst, arith, eqb-true, length-append}
 use Rattle.std.specs.List.{All, AllZip, Any, Contains}
 use Rattle.std.proofs.lemmas.List.{get_or-map, length-map}
 use Rattle.std.proofs.lemmas.List.Elements.{All-contains, All-cons, All-nil, All-weaker}
@@ -8,7 +8,6 @@ use Rattle.avl_values.specs.Record.{Record}
 use Rattle.flash_ring.specs.Entries.{held_of}
 use Rattle.flash_ring.specs.Held.{IsPart}
 use Rattle.journey_script.specs.Laws.{AreDistinct, is_device}
-use Rattle.record_lists.specs.EachOnce.{IsOnce}
 use Rattle.record_lists.specs.SameRecord.{is_same}
 use Rattle.record_lists.proofs.EachOnce.{once-all, once-none}
 use Rattle.record_lists.proofs.SameRecord.{records-tell}
@@ -18,8 +17,8 @@ use Rattle.trial_model.specs.declared.outcome.ConnectionOutcome.{ConnectionOutco
 use Rattle.trial_model.specs.declared.outcome.DeviceOutcome.{DeviceOutcome}
 use Rattle.trial_model.specs.declared.script.ScriptLine.{ScriptLine}
 use Rattle.trial_model.specs.Acquired.{IsAcquired}
-use Rattle.trial_model.specs.Answers.{HasAnswers, IsAnswered, counted_of}
-use Rattle.trial_model.specs.Connections.{ConnectionHistory, connections_of, is_whole, up_to}
+use Rattle.trial_model.specs.Answers.{HasAnswers, counted_of}
+use Rattle.trial_model.specs.Connections.{ConnectionHistory, connections_of, up_to}
 use Rattle.trial_model.specs.Cover.{IsBelow}
 use Rattle.trial_model.specs.Cut.{IsCutRightly}
 use Rattle.trial_model.specs.Decisions.{Decision, DeviceHistory, history_of, records_decided, steps_of}
@@ -41,11 +40,11 @@ use Rattle.trial_wire.specs.Connections.{Connection, IsHeard}
 use Rattle.trial_wire.proofs.Logs.{answers-most, heard-counted}
 use Rattle.trial_wire.proofs.Passing.{up_to-least}
 use Rattle.trial_play.specs.Outcomes.{device_outcome, outcome_of}
-use Rattle.trial_play.specs.Trials.{AreSidesSound, IsSoundBy, IsTrialSound, TrialState, counted_in, cover_by, earlier_by, given_in, heard_in, history_in, known_by, logs_of, records_by}
-use Rattle.trial_play.proofs.Decided.{decided-front, device-at, earlier-is}
+use Rattle.trial_play.specs.Trials.{AreSidesSound, IsSoundBy, IsTrialSound, TrialState, counted_in, cover_by, earlier_by, given_in, heard_in, history_in, known_by, logs_of}
+use Rattle.trial_play.proofs.Decided.{decided-front, earlier-is}
 use Rattle.trial_play.proofs.Evidence.{given-delivered, given-of, in-frames, records-any, records-at, records-less, sent-decided}
 use Rattle.trial_play.proofs.KeptLogs.{logs-length}
-use Rattle.trial_play.proofs.Places.{get-beside, get-map, none-some}
+use Rattle.trial_play.proofs.Places.{get-beside, get-map}
 use Rattle.trial_play.proofs.Whole.{whole-round}
 
 -- Lists of records.
@@ -161,7 +160,7 @@ module _ (devices : List Device) (lines : List ScriptLine) (t : TrialState) (s :
   counted-archived n h c at_h at_c imei =
       subst (λ rs. AreIn rs (records_in (counted_of c))) (sym (archived-is t.shelf (heard_in logs) (history_in lines logs) h.opening.imei devices t.sides s.sides (placed n h at_h)))
       (subst (λ i. AreIn (recs_for i t.shelf.list) (records_in (counted_of c))) imei
-        (in-then (recs_for c.imei t.shelf.list) (counted_in logs c.imei) (records_in (counted_of c)) (archive.keeps c.imei) (records-at counted_of logs n c at_c)))
+      (in-then (recs_for c.imei t.shelf.list) (counted_in logs c.imei) (records_in (counted_of c)) (archive.keeps c.imei) (records-at counted_of logs n c at_c)))
 
   -- The fields of connections.
 
@@ -198,7 +197,7 @@ module _ (devices : List Device) (lines : List ScriptLine) (t : TrialState) (s :
       let w = l.0 in
       subst (λ (z : ConnectionOutcome). EmptiesBatch h.opening.drains (archived_of h.opening.imei outcomes) z z.device) (sym l.1)
       (whole-round (earlier_by devices logs h) h w.log sound.log (subst (λ b. IsHeard b w.log) known sound.heard) sound.early whole (cover_by h) (archived_of h.opening.imei outcomes) sound.device sound.done
-        (counted-archived n h w.log at_h (at_c ∙ ap Some l.1) sound.log.imei))
+      (counted-archived n h w.log at_h (at_c ∙ ap Some l.1) sound.log.imei))
 
   pub kept-rounds : EachFrom (λ n h c. IsWholeRound (known_by devices h) h.opening (archived_of h.opening.imei outcomes) c) 0 hs logs
   kept-rounds = each-from (λ n h c. IsWholeRound (known_by devices h) h.opening (archived_of h.opening.imei outcomes) c) 0 hs logs many (λ n k h c at at_h at_c. round-at n h c at_h at_c)
@@ -245,8 +244,8 @@ module _ (devices : List Device) (lines : List ScriptLine) (t : TrialState) (s :
             let who : h.opening.imei ≡ imei = sym l.2.log.imei ∙ (ap (λ (z : ConnectionOutcome). z.imei) (sym l.1) ∙ own) in
             let path : earlier_by devices logs h ≡ records_decided (history_of d.device steps).decisions = ap (λ i. earlier_records i devices steps) who ∙ earlier-is devices k d.device steps distinct at in
             let front : AreIn decided (records_decided (history_of d.device steps).decisions) =
-                subst (λ ls. AreIn (records_decided (history_of d.device (steps_of ls (ends_of logs))).decisions) (records_decided (history_of d.device steps).decisions)) (sym begins.is)
-                (decided-front d.device h.before begins.rest (ends_of logs)) in
+            subst (λ ls. AreIn (records_decided (history_of d.device (steps_of ls (ends_of logs))).decisions) (records_decided (history_of d.device steps).decisions)) (sym begins.is)
+            (decided-front d.device h.before begins.rest (ends_of logs)) in
             let sent = subst (λ rs. AreIn rs (records_in (frames_of w.log.up))) path (sent-decided w.log.device (earlier_by devices logs h) w.log l.2.log.sent) in
             subst (λ (z : ConnectionOutcome). AreIn decided (records_in (frames_of z.up))) (sym l.1) (in-then decided (records_decided (history_of d.device steps).decisions) (records_in (frames_of w.log.up)) front sent)
 
@@ -306,7 +305,7 @@ module _ (devices : List Device) (lines : List ScriptLine) (t : TrialState) (s :
       → ((k : ℕ) (d : Side) → slice_get devices k ≡ Some d.device → IsSideSound (heard_in logs d.device.imei) (history_in lines logs d.device) d → P d.device (device_outcome t.shelf d)) → AllZip P devices outcomes
   each-device P step = zip-map P (λ x d. (d.device ≡ x) × IsSideSound (heard_in logs x.imei) (history_in lines logs x) d) (device_outcome t.shelf) devices t.sides
       (λ k x d at q. subst (λ (y : Device). P y (device_outcome t.shelf d)) q.0
-        (step k d (at ∙ ap Some (sym q.0)) (subst (λ (y : Device). IsSideSound (heard_in logs y.imei) (history_in lines logs y) d) (sym q.0) q.1))) s.sides
+      (step k d (at ∙ ap Some (sym q.0)) (subst (λ (y : Device). IsSideSound (heard_in logs y.imei) (history_in lines logs y) d) (sym q.0) q.1))) s.sides
 
   pub kept-acquired : AllZip (λ device d. IsAcquired device (history_in lines logs device) d) devices outcomes
   kept-acquired = each-device (λ device d. IsAcquired device (history_in lines logs device) d) (λ k d at sound. record { imei = refl; acquired = sound.acquired })

@@ -1,8 +1,7 @@
 -- Where records of the accounts come from: what was delivered was decided, what was heard is archived, and each in a log.
-use Rattle.std.proofs.Common.{◌≡◌, ◌≤◌, inl, inr, ℕ, zero, suc, ◌==◌, Bool, true, false, List, [], ◌∷◌, ◌++◌, length, map, slice_get, Some, if◌then◌else◌, refl, sym, ◌∙◌, ap, subst, arith, eq-eqb, eqb-true}
+use Rattle.std.proofs.Common.{◌≡◌, inl, inr, ℕ, zero, suc, ◌==◌, Bool, true, false, List, [], ◌∷◌, ◌++◌, length, slice_get, Some, if◌then◌else◌, refl, sym, ap, subst, arith, eq-eqb, eqb-true}
 use Rattle.std.specs.List.{All, Any, Contains}
-use Rattle.std.proofs.lemmas.Bool.{cases_Bool}
-use Rattle.std.proofs.lemmas.List.Elements.{All-append, All-contains, All-cons, All-head, All-nil, All-tail, All-weaker, Contains-append_cases}
+use Rattle.std.proofs.lemmas.List.Elements.{All-append, All-cons, All-head, All-nil, All-tail, Contains-append_cases}
 use Rattle.avl_values.specs.Record.{Record}
 use Rattle.trial_model.specs.declared.outcome.ConnectionOutcome.{ConnectionOutcome}
 use Rattle.trial_model.specs.declared.outcome.DeviceEnd.{DeviceEnd}
@@ -10,7 +9,7 @@ use Rattle.trial_model.specs.declared.outcome.DeviceEnd.TheVariants as End
 use Rattle.trial_model.specs.Connections.{ConnectionHistory, up_to}
 use Rattle.trial_model.specs.Delivery.{delivered_of}
 use Rattle.trial_model.specs.Frames.{Frame, frames_of, frames_within, records_in}
-use Rattle.trial_model.specs.Logs.{IsSent, IsWholeStream}
+use Rattle.trial_model.specs.Logs.{IsSent}
 use Rattle.trial_model.specs.RecordLists.{AreIn}
 use Rattle.trial_server.proofs.Containing.{in-itself, in-left, in-right, in-then}
 use Rattle.trial_wire.proofs.Filters.{within-first}
@@ -111,6 +110,6 @@ records-at frames [] n c at = absurd (none-some c at)
 records-at frames (d ∷ logs) zero c at =
     subst (λ (z : ConnectionOutcome). AreIn (records_by frames (z ∷ logs) c.imei) (records_in (frames c))) (sym (some-same d c at))
     (in-left (if c.imei == c.imei then records_in (frames c) else []) (records_by frames logs c.imei) (records_in (frames c))
-      (subst (λ b. AreIn (if b then records_in (frames c) else []) (records_in (frames c))) (sym (eq-eqb c.imei c.imei refl)) (in-itself (records_in (frames c)))))
+    (subst (λ b. AreIn (if b then records_in (frames c) else []) (records_in (frames c))) (sym (eq-eqb c.imei c.imei refl)) (in-itself (records_in (frames c)))))
 records-at frames (d ∷ logs) (suc n) c at =
     in-right (if d.imei == c.imei then records_in (frames d) else []) (records_by frames logs c.imei) (records_in (frames c)) (records-at frames logs n c at)

@@ -91,7 +91,7 @@ pub counted-set : (imei n : ℕ) (logs : List ConnectionOutcome) (c : Connection
 counted-set imei n [] c b more server fs at counts = absurd (none-some c at)
 counted-set imei zero (y ∷ logs) c b more server fs at counts =
     subst (λ (z : ConnectionOutcome). AreIn (((if z.imei == imei then records_in (counted_of z) else []) ++ counted_in logs imei) ++ (if c.imei == imei then records_in fs else []))
-        ((if c.imei == imei then records_in (counted_of (fed c b more server)) else []) ++ counted_in logs imei)) (sym (some-same y c at)) (split (c.imei == imei))
+    ((if c.imei == imei then records_in (counted_of (fed c b more server)) else []) ++ counted_in logs imei)) (sym (some-same y c at)) (split (c.imei == imei))
   where
     split : (o : Bool) → AreIn (((if o then records_in (counted_of c) else []) ++ counted_in logs imei) ++ (if o then records_in fs else [])) ((if o then records_in (counted_of (fed c b more server)) else []) ++ counted_in logs imei)
     split true =
@@ -100,8 +100,8 @@ counted-set imei zero (y ∷ logs) c b more server fs at counts =
         let new = records_in fs in
         subst (λ l. AreIn ((was ++ rest) ++ new) (l ++ rest)) (sym (ap records_in counts ∙ records-append (counted_of c) fs))
         (All-append (Contains ((was ++ rest) ++ new)) (was ++ new) rest
-          (All-append (Contains ((was ++ rest) ++ new)) was new (in-left (was ++ rest) new was (in-left was rest was (in-itself was))) (in-right (was ++ rest) new new (in-itself new)))
-          (in-left (was ++ rest) new rest (in-right was rest rest (in-itself rest))))
+        (All-append (Contains ((was ++ rest) ++ new)) was new (in-left (was ++ rest) new was (in-left was rest was (in-itself was))) (in-right (was ++ rest) new new (in-itself new)))
+        (in-left (was ++ rest) new rest (in-right was rest rest (in-itself rest))))
     split false = in-left ([] ++ counted_in logs imei) [] ([] ++ counted_in logs imei) (in-itself ([] ++ counted_in logs imei))
 counted-set imei (suc n) (y ∷ logs) c b more server fs at counts =
     let mine = if y.imei == imei then records_in (counted_of y) else [] in

@@ -50,9 +50,10 @@ pub kept-fed : (ws : List Connection) (n : ℕ) (w : Connection) (b : ℕ) (more
     → AreKeptLogs (logs_of ws) (logs_of (set ws n (record { log = fed w.log b more server; going = going })))
 kept-fed [] n w b more server going at = absurd (none-some w at)
 kept-fed (v ∷ ws) zero w b more server going at =
-    let same = some-same v w at in
-    (record { imei = ap (λ (z : Connection). z.log.imei) (sym same); up = ap (λ (z : Connection). z.log.up) (sym same); down_given = ap (λ (z : Connection). z.log.down_given) (sym same); device = ap (λ (z : Connection). z.log.device) (sym same) },
-    kept-itself (logs_of ws))
+    let same = some-same v w at in (
+      record { imei = ap (λ (z : Connection). z.log.imei) (sym same); up = ap (λ (z : Connection). z.log.up) (sym same); down_given = ap (λ (z : Connection). z.log.down_given) (sym same); device = ap (λ (z : Connection). z.log.device) (sym same) },
+      kept-itself (logs_of ws),
+    )
 kept-fed (v ∷ ws) (suc n) w b more server going at = (record { imei = refl; up = refl; down_given = refl; device = refl }, kept-fed ws n w b more server going at)
 
 -- the server's power loss

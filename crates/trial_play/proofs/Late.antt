@@ -97,7 +97,7 @@ module _ (devices : List Device) (lines : List ScriptLine) (number : ℕ) (bytes
   pub nothing-archive : IsRightShelf (given_in (at_number (with_more bytes) number (connections_of lines)) (logs_of ws)) (counted_in (logs_of ws)) s
   nothing-archive = subst (λ ks. IsRightShelf (given_in ks (logs_of ws)) (counted_in (logs_of ws)) s) (sym (number-changed (with_more bytes) number (connections_of lines)))
       (shelf-weaker (given_in (connections_of lines) (logs_of ws)) (counted_in (logs_of ws)) (given_in (changed_at (with_more bytes) number (connections_of lines)) (logs_of ws)) (counted_in (logs_of ws)) s
-        (λ j. given-changed (with_more bytes) (more-wider bytes) j number (connections_of lines) (logs_of ws)) (λ j. in-itself (counted_in (logs_of ws) j)) archive)
+      (λ j. given-changed (with_more bytes) (more-wider bytes) j number (connections_of lines) (logs_of ws)) (λ j. in-itself (counted_in (logs_of ws) j)) archive)
 
   -- The session of one connection takes bytes.
   module _ (m : ℕ) (h : ConnectionHistory) (w : Connection) (failed : Bool) (b : ℕ) (more : List ℕ) (server : ServerEnd) (going : Bool) (t : ShelfView)
@@ -140,8 +140,8 @@ module _ (devices : List Device) (lines : List ScriptLine) (number : ℕ) (bytes
     this-one : IsSoundBy devices (lines ++ l ∷ []) later m h' w'
     this-one =
         let fed_one = fed-sound lines (logs_of ws) later l (known_by devices h) (cover_by h) (earlier_by devices (logs_of ws) h) m h w (plus h.allowed bytes) failed b more server going s t was on
-            (sent-kept lines (logs_of ws) later w.log.imei kept) f up_is (given-at (connections_of lines) m (length w.log.up) h at_h ∙ sym was.log.up)
-            (changed-gives devices lines l (with_more bytes) number (server_of lines).fuse ws makes (more-before bytes) sound m (length w.log.up) h' at-h' ∙ sym up_is) evidence left in
+        (sent-kept lines (logs_of ws) later w.log.imei kept) f up_is (given-at (connections_of lines) m (length w.log.up) h at_h ∙ sym was.log.up)
+        (changed-gives devices lines l (with_more bytes) number (server_of lines).fuse ws makes (more-before bytes) sound m (length w.log.up) h' at-h' ∙ sym up_is) evidence left in
         subst (λ rs. IsConnectionSound (lines ++ l ∷ []) later (known_by devices h) (cover_by h) rs m h' w') (sym (earlier-kept devices (logs_of ws) later h kept)) fed_one
 
     each : (k : ℕ) (v : ConnectionHistory) (x : Connection) → slice_get hs k ≡ Some v → slice_get (set ws m w') k ≡ Some x → IsSoundBy devices (lines ++ l ∷ []) later k v x
@@ -154,7 +154,7 @@ module _ (devices : List Device) (lines : List ScriptLine) (number : ℕ) (bytes
           let before = sound.each k o.0 x o.1 other.1 in
           let same : v ≡ o.0 = (elim o.2 as (λ _. v ≡ o.0) [ inl there ↦ absurd (other.0 (omega (arith, there.0, is_number))) | inr apart ↦ apart.1 ]) in
           changed-same devices lines l (with_more bytes) number (server_of lines).fuse ws makes (more-before bytes) sound later k v o.0 x kept at_v o.1 before.log.up
-            (subst (λ z. IsSoundBy devices lines (logs_of ws) k z x) (sym same) before))
+          (subst (λ z. IsSoundBy devices lines (logs_of ws) k z x) (sym same) before))
     ]
 
     pub gives-connections : AreConnectionsSound devices (lines ++ Line.Late number bytes ∷ []) (at_number (with_more bytes) number (connections_of lines)) (set ws m (record { log = fed w.log b more server; going = going }))
@@ -179,15 +179,15 @@ module _ (devices : List Device) (lines : List ScriptLine) (number : ℕ) (bytes
     gives-archive =
         let gave = was.log.up in
         let between : frames_between w.log.up_given b w.log.up ≡ frames_between (up_to h.allowed (length w.log.up)) (up_to h'.allowed (length w.log.up)) w.log.up =
-            ap (λ (z : ℕ × ℕ). frames_between z.0 z.1 w.log.up) (λ i. (was.log.up i, up_is i)) in
+        ap (λ (z : ℕ × ℕ). frames_between z.0 z.1 w.log.up) (λ i. (was.log.up i, up_is i)) in
         let good = good-now w.log w.log.server (was.going on).1 in
         let counts = counted-fed w.log b more server failed good f.after f.fault (λ bad. serves-some w.log.imei (frames_between w.log.up_given b w.log.up) s t (subst (λ x. Serves w.log.imei x (frames_between w.log.up_given b w.log.up) s t) bad f.serves)) in
         subst (λ (z : List ConnectionHistory × List ConnectionOutcome). IsRightShelf (given_in z.0 z.1) (counted_in z.1) t) (λ i. (sym set-is i, sym logs-set i))
         (serves-right (given_in (connections_of lines) (logs_of ws)) (counted_in (logs_of ws)) (given_in (set (connections_of lines) m h') (set (logs_of ws) m (fed w.log b more server)))
-            (counted_in (set (logs_of ws) m (fed w.log b more server))) w.log.imei failed (frames_between w.log.up_given b w.log.up) s t archive up f.serves
-          (record {
-            keeps = λ j. given-grows h h' w.log b more server order j m (connections_of lines) (logs_of ws) at_h logs-at;
-            has = subst (λ fs. AreIn (given_in (set (connections_of lines) m h') (set (logs_of ws) m (fed w.log b more server)) w.log.imei) (records_in fs)) (sym between)
-                (given-has h h' w.log b more server order m (connections_of lines) (logs_of ws) at_h logs-at);
-          })
-          (λ j. counted-set j m (logs_of ws) w.log b more server (receipted failed (frames_between w.log.up_given b w.log.up)) logs-at counts))
+        (counted_in (set (logs_of ws) m (fed w.log b more server))) w.log.imei failed (frames_between w.log.up_given b w.log.up) s t archive up f.serves
+        (record {
+          keeps = λ j. given-grows h h' w.log b more server order j m (connections_of lines) (logs_of ws) at_h logs-at;
+          has = subst (λ fs. AreIn (given_in (set (connections_of lines) m h') (set (logs_of ws) m (fed w.log b more server)) w.log.imei) (records_in fs)) (sym between)
+              (given-has h h' w.log b more server order m (connections_of lines) (logs_of ws) at_h logs-at);
+        })
+        (λ j. counted-set j m (logs_of ws) w.log b more server (receipted failed (frames_between w.log.up_given b w.log.up)) logs-at counts))

@@ -1,5 +1,5 @@
 -- The benches that are handed back: each flash, and the archive as its entries are.
-use Rattle.std.proofs.Common.{◌≡◌, ◌≤◌, ℕ, zero, suc, ◌==◌, ◌||◌, Bool, true, false, List, [], ◌∷◌, ◌++◌, length, map, slice_get, Option, Some, None, if◌then◌else◌, refl, sym, ◌∙◌, ap, subst, arith, eq-eqb, eqb-true, length-append}
+use Rattle.std.proofs.Common.{◌≡◌, ◌≤◌, ℕ, suc, ◌==◌, ◌||◌, Bool, true, false, List, [], ◌∷◌, ◌++◌, length, map, slice_get, Option, Some, None, if◌then◌else◌, refl, sym, ◌∙◌, ap, subst, arith, eq-eqb, eqb-true, length-append}
 use Rattle.std.specs.List.{All, AllZip, Any, Contains}
 use Rattle.std.proofs.lemmas.Bool.{false≢true}
 use Rattle.std.proofs.lemmas.List.Elements.{All-cons, All-head, All-nil, All-tail, All-weaker}
@@ -14,7 +14,7 @@ use Rattle.journey_script.specs.Laws.{AreDistinct, HasLaws, is_device}
 use Rattle.medium_model.specs.Content.{Content}
 use Rattle.medium_model.specs.Images.{IsSame, IsSettled}
 use Rattle.medium_model.specs.State.{IfTold}
-use Rattle.shelf.specs.Archive.{archived, list_of, recs_for}
+use Rattle.shelf.specs.Archive.{archived, recs_for}
 use Rattle.shelf.specs.Shelf.{HasList, ShelfView}
 use Rattle.shelf.proofs.Laws.{archived-once, reads-hold}
 use Rattle.trial_model.specs.declared.outcome.ConnectionOutcome.{ConnectionOutcome}
@@ -75,9 +75,9 @@ entries-archived [] all = All-nil (λ (e : EntryValue). 1 ≤ length (archived e
 entries-archived (e ∷ es) all =
     All-cons (λ (f : EntryValue). 1 ≤ length (archived f.imei (e ∷ es))) e es
     (subst (λ b. 1 ≤ length (if b then e.records ++ archived e.imei es else archived e.imei es)) (sym (eq-eqb e.imei e.imei refl))
-      (omega (arith, All-head (λ (f : EntryValue). 1 ≤ length f.records) e es all, length-append e.records (archived e.imei es))))
+    (omega (arith, All-head (λ (f : EntryValue). 1 ≤ length f.records) e es all, length-append e.records (archived e.imei es))))
     (All-weaker (λ (f : EntryValue). 1 ≤ length (archived f.imei es)) (λ (f : EntryValue). 1 ≤ length (archived f.imei (e ∷ es))) (λ f some. longer e f es some) es
-      (entries-archived es (All-tail (λ (f : EntryValue). 1 ≤ length f.records) e es all)))
+    (entries-archived es (All-tail (λ (f : EntryValue). 1 ≤ length f.records) e es all)))
 
 some-of : (P : Record → Type 0) (rs : List Record) → 1 ≤ length rs → All P rs → (r : Record) × P r
 some-of P [] some all = absurd (omega arith)
@@ -121,14 +121,14 @@ module _ (devices : List Device) (lines : List ScriptLine) (t : TrialState) (s :
   archive-device = told-both (HasList t.shelf.list) (λ c. AreRightEntries (given_in hs logs) (counted_in logs) (entries_of c.reads))
       (λ c. AllZip (λ device d. d.archived ≡ archived device.imei (entries_of c.reads)) devices (map (device_outcome t.shelf) t.sides)) t.shelf.medium.content
       (λ c list are. zip-map (λ device d. d.archived ≡ archived device.imei (entries_of c.reads)) (λ x d. (d.device ≡ x) × IsSideSound (heard_in logs x.imei) (history_in lines logs x) d) (device_outcome t.shelf) devices t.sides
-        (λ k x d at q. ap (λ (y : Device). recs_for y.imei t.shelf.list) q.0 ∙ sym (archived-list c list are x.imei)) s.sides)
+      (λ k x d at q. ap (λ (y : Device). recs_for y.imei t.shelf.list) q.0 ∙ sym (archived-list c list are x.imei)) s.sides)
       (s.server.archive.durable s.server.up).reads right
 
   pub archive-others : IfTold t.shelf.medium.content (λ c. All (λ (e : EntryValue). Contains (map (λ (d : Device). d.imei) devices) e.imei) (entries_of c.reads))
   archive-others = told-both (HasList t.shelf.list) (λ c. AreRightEntries (given_in hs logs) (counted_in logs) (entries_of c.reads))
       (λ c. All (λ (e : EntryValue). Contains (map (λ (d : Device). d.imei) devices) e.imei) (entries_of c.reads)) t.shelf.medium.content
       (λ c list are. All-weaker (λ (e : EntryValue). 1 ≤ length (archived e.imei (entries_of c.reads))) (λ (e : EntryValue). Contains (map (λ (d : Device). d.imei) devices) e.imei)
-        (λ e some. archived-device e.imei (subst (λ rs. 1 ≤ length rs) (archived-list c list are e.imei) some)) (entries_of c.reads) (entries-archived (entries_of c.reads) (entries-some c.reads)))
+      (λ e some. archived-device e.imei (subst (λ rs. 1 ≤ length rs) (archived-list c list are e.imei) some)) (entries_of c.reads) (entries-archived (entries_of c.reads) (entries-some c.reads)))
       (s.server.archive.durable s.server.up).reads right
 
 pub kept-on-media : (script : Script) (t new : TrialState) → HasLaws (lines_of script) → StartsTrial (devices_of (lines_of script)) t → PlaysAll (devices_of (lines_of script)) [] (lines_of script) t new

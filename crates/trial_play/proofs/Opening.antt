@@ -87,7 +87,7 @@ module _ (devices : List Device) (lines : List ScriptLine) (l : ScriptLine) (o :
   new-one =
       let now : given_by (lines ++ l ∷ []) n (length c.up) ≡ c.up_given = given-now lines l (server_of lines).fuse hs n (length c.up) h makes-now new-at ∙ sym r.rounded.given in
       let made = opened-sound lines later l (known_by devices h) (cover_by h) (earlier_by devices (logs_of ws) h) n lines o r.failed c r.going (r.going && h.half_open) s t r.rounded
-          (both-true r.going h.half_open) (not-both r.going h.half_open) none-before now evidence armed-now in
+      (both-true r.going h.half_open) (not-both r.going h.half_open) none-before now evidence armed-now in
       subst (λ rs. IsConnectionSound (lines ++ l ∷ []) later (known_by devices h) (cover_by h) rs n h w) (sym (earlier-more devices (logs_of ws) (c ∷ []) h (omega (arith, count, connections-count lines)))) made
 
   old-one : (k : ℕ) (v : ConnectionHistory) (x : Connection) → slice_get (connections_of lines) k ≡ Some v → slice_get ws k ≡ Some x → IsSoundBy devices (lines ++ l ∷ []) later k v x
@@ -96,7 +96,7 @@ module _ (devices : List Device) (lines : List ScriptLine) (l : ScriptLine) (o :
       let gave = given-at (connections_of lines) k (length x.log.up) v at_v in
       let gives = given-now lines l (server_of lines).fuse hs k (length x.log.up) v makes-now (get-front (connections_of lines) (h ∷ []) k v at_v) in
       line-sound devices lines l (logs_of ws) later k v x (sent-more lines (logs_of ws) (c ∷ []) x.log.imei (omega (arith, count)))
-        (earlier-more devices (logs_of ws) (c ∷ []) v (omega (arith, count, low, sound.places k v at_v))) (omega (arith, gave, gives)) (sound.each k v x at_v at_x)
+      (earlier-more devices (logs_of ws) (c ∷ []) v (omega (arith, count, low, sound.places k v at_v))) (omega (arith, gave, gives)) (sound.each k v x at_v at_x)
 
   logs-is : logs_of ws' ≡ later
   logs-is = ap logs_of r.is ∙ logs-append ws (w ∷ [])
@@ -137,9 +137,9 @@ module _ (devices : List Device) (lines : List ScriptLine) (l : ScriptLine) (o :
   pub opens-archive : IsRightShelf (given_in (connections_of lines ++ opened lines l o ∷ []) (logs_of ws')) (counted_in (logs_of ws')) t
   opens-archive = subst (λ logs. IsRightShelf (given_in hs logs) (counted_in logs) t) (sym logs-is)
       (serves-right (given_in (connections_of lines) (logs_of ws)) (counted_in (logs_of ws)) (given_in hs later) (counted_in later) c.imei r.failed (delivered_of c) s t archive up r.rounded.serves
-        (record {
-          keeps = λ j. subst (λ rs. AreIn rs (given_in (connections_of lines) (logs_of ws) j)) (sym (given-is j)) (with-keeps c.imei (records_in (delivered_of c)) (given_in (connections_of lines) (logs_of ws)) j);
-          has = subst (λ rs. AreIn rs (records_in (delivered_of c))) (sym (given-is c.imei)) (with-has c.imei (records_in (delivered_of c)) (given_in (connections_of lines) (logs_of ws)));
-        })
-        (λ j. subst (λ rs. AreIn (with_records c.imei (records_in (receipted r.failed (delivered_of c))) (counted_in (logs_of ws)) j) rs) (sym (counted-is j))
-          (in-itself (with_records c.imei (records_in (receipted r.failed (delivered_of c))) (counted_in (logs_of ws)) j))))
+      (record {
+        keeps = λ j. subst (λ rs. AreIn rs (given_in (connections_of lines) (logs_of ws) j)) (sym (given-is j)) (with-keeps c.imei (records_in (delivered_of c)) (given_in (connections_of lines) (logs_of ws)) j);
+        has = subst (λ rs. AreIn rs (records_in (delivered_of c))) (sym (given-is c.imei)) (with-has c.imei (records_in (delivered_of c)) (given_in (connections_of lines) (logs_of ws)));
+      })
+      (λ j. subst (λ rs. AreIn (with_records c.imei (records_in (receipted r.failed (delivered_of c))) (counted_in (logs_of ws)) j) rs) (sym (counted-is j))
+      (in-itself (with_records c.imei (records_in (receipted r.failed (delivered_of c))) (counted_in (logs_of ws)) j))))

@@ -58,10 +58,14 @@ get-changed {A = A} f n (x ∷ xs) k v e = split (λ j at. get-changed f (n - 1)
     split later true is zero e = (x, refl, inl (eqb-true n 1 is, sym (some-same (f x) v e)))
     split later true is (suc k) e = (v, e, inr (λ q. (let p = eqb-true n 1 is in omega (arith, p, q)), refl))
     split later false is zero e = (x, refl, inr (λ q. true≢false (sym (eq-eqb n 1 q) ∙ is), sym (some-same x v e)))
-    split later false is (suc k) e = (let r = later k e in (r.0, r.1, (elim r.2 as (λ _. ((n ≡ suc (suc k)) × (v ≡ f r.0)) ⊎ ((n ≡ suc (suc k) → ⊥) × (v ≡ r.0))) [
-      | inl there ↦ inl ((let p = there.0 in omega (arith, p)), there.1)
-      | inr other ↦ inr (λ q. other.0 (omega (arith, q)), other.1)
-    ])))
+    split later false is (suc k) e = (let r = later k e in (
+      r.0,
+      r.1,
+      (elim r.2 as (λ _. ((n ≡ suc (suc k)) × (v ≡ f r.0)) ⊎ ((n ≡ suc (suc k) → ⊥) × (v ≡ r.0))) [
+        | inl there ↦ inl ((let p = there.0 in omega (arith, p)), there.1)
+        | inr other ↦ inr (λ q. other.0 (omega (arith, q)), other.1)
+      ]),
+    ))
 
 pub changed-set : {A : Type 0} (f : A → A) (number n : ℕ) (xs : List A) (x : A) → number ≡ suc n → slice_get xs n ≡ Some x → changed_at f number xs ≡ set xs n (f x)
 changed-set f number n [] x is at = absurd (none-some x at)

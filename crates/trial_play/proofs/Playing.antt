@@ -55,7 +55,7 @@ module _ (devices : List Device) (lines : List ScriptLine) (t : TrialState) (s :
       → ((x : Device) (h : DeviceHistory) → after_line x h None l ≡ h) → new ≡ t → IsTrialSound devices (lines ++ l ∷ []) new
   nothing-line l new none connections fuse stays is =
       with-line l new none (kept-same (logs_of t.connections) (logs_of new.connections) (ap (λ (x : TrialState). logs_of x.connections) is)) (ap (λ (x : TrialState). x.sides) is) stays
-        (idle-server devices lines l t new connections (ap (λ (x : TrialState). x.connections) is) (ap (λ (x : TrialState). x.shelf) is) (ap (λ (x : TrialState). x.fuse) is ∙ (s.server.fuse ∙ sym fuse)) s.server)
+      (idle-server devices lines l t new connections (ap (λ (x : TrialState). x.connections) is) (ap (λ (x : TrialState). x.shelf) is) (ap (λ (x : TrialState). x.fuse) is ∙ (s.server.fuse ∙ sym fuse)) s.server)
 
   -- a line of one device that doesn't connect
   with-device : (l : ScriptLine) (imei : ℕ) (R : Side → Side → Type 0) (new : TrialState) → is_some (opening_of l) ≡ false → connections_of (lines ++ l ∷ []) ≡ connections_of lines → (server_of (lines ++ l ∷ [])).fuse ≡ (server_of lines).fuse
@@ -72,43 +72,44 @@ module _ (devices : List Device) (lines : List ScriptLine) (t : TrialState) (s :
   fix-line imei fix new one server =
       let l : ScriptLine = Line.Fix imei fix in
       with-device l imei (FixesSide fix) new refl (connections-push lines l) (fuse-push lines l)
-        (λ x h other. unless-own imei x.imei (after_fix x h fix) h (eqb-flip x.imei imei other))
-        (λ x d e heard h is device was f. (let r = side-fixed heard h fix d e was f in
-          (r.0 ∙ device, subst (λ k. IsSideSound heard k e) (ap (λ y. after_fix y h fix) device ∙ sym (where-own imei x.imei (after_fix x h fix) h (sym is))) r.1)))
-        one server
+      (λ x h other. unless-own imei x.imei (after_fix x h fix) h (eqb-flip x.imei imei other))
+      (λ x d e heard h is device was f. (let r = side-fixed heard h fix d e was f in
+      (r.0 ∙ device, subst (λ k. IsSideSound heard k e) (ap (λ y. after_fix y h fix) device ∙ sym (where-own imei x.imei (after_fix x h fix) h (sym is))) r.1)))
+      one server
 
   pub power-line : (imei : ℕ) (new : TrialState) → OneSide imei PowersSide devices t.sides new.sides → StaysServer t new → IsTrialSound devices (lines ++ Line.Power (Who.Device imei) ∷ []) new
   power-line imei new one server =
       let l : ScriptLine = Line.Power (Who.Device imei) in
       with-device l imei PowersSide new refl (connections-push lines l) (fuse-push lines l)
-        (λ x h other. unless-own x.imei imei (record h { watching = powered_up; fuse = None }) h other)
-        (λ x d e heard h is device was p. (let r = side-powered heard h d e was p in
-          (r.0 ∙ device, subst (λ k. IsSideSound heard k e) (sym (where-own x.imei imei (record h { watching = powered_up; fuse = None }) h is)) r.1)))
-        one server
+      (λ x h other. unless-own x.imei imei (record h { watching = powered_up; fuse = None }) h other)
+      (λ x d e heard h is device was p. (let r = side-powered heard h d e was p in
+      (r.0 ∙ device, subst (λ k. IsSideSound heard k e) (sym (where-own x.imei imei (record h { watching = powered_up; fuse = None }) h is)) r.1)))
+      one server
 
   pub fuse-line : (imei calls : ℕ) (tear : Tear) (new : TrialState) → OneSide imei (λ d e. e ≡ record d { fuse = Some calls }) devices t.sides new.sides → StaysServer t new
       → IsTrialSound devices (lines ++ Line.Fuse (Who.Device imei) calls tear ∷ []) new
   fuse-line imei calls tear new one server =
       let l : ScriptLine = Line.Fuse (Who.Device imei) calls tear in
       with-device l imei (λ d e. e ≡ record d { fuse = Some calls }) new refl (connections-push lines l) (fuse-push lines l)
-        (λ x h other. unless-own x.imei imei (record h { fuse = Some calls }) h other)
-        (λ x d e heard h is device was same.
-          (ap (λ (y : Side). y.device) same ∙ device,
-            subst (λ (z : DeviceHistory × Side). IsSideSound heard z.0 z.1) (λ i. (sym (where-own x.imei imei (record h { fuse = Some calls }) h is) i, sym same i)) (side-fused heard h calls d was)))
-        one server
+      (λ x h other. unless-own x.imei imei (record h { fuse = Some calls }) h other)
+      (λ x d e heard h is device was same. (
+        ap (λ (y : Side). y.device) same ∙ device,
+        subst (λ (z : DeviceHistory × Side). IsSideSound heard z.0 z.1) (λ i. (sym (where-own x.imei imei (record h { fuse = Some calls }) h is) i, sym same i)) (side-fused heard h calls d was),
+      ))
+      one server
 
   pub late-line : (number : ℕ) (bytes : Option ℕ) (new : TrialState) → PlaysLate devices lines number bytes t new → new.sides ≡ t.sides → IsTrialSound devices (lines ++ Line.Late number bytes ∷ []) new
   late-line number bytes new p sides =
       with-line (Line.Late number bytes) new refl
-        (kept-then (logs_of t.connections) (logs_of p.between) (logs_of new.connections)
-          (late-kept-logs devices number bytes (connections_of lines) t.connections p.between (armed t.fuse t.shelf) p.shelf p.feeds)
-          (ends-kept-logs t.fuse p.between new.connections p.shelf new.shelf p.ends))
-        sides (λ x h. refl) (late-server devices lines t s.server number bytes new p)
+      (kept-then (logs_of t.connections) (logs_of p.between) (logs_of new.connections)
+      (late-kept-logs devices number bytes (connections_of lines) t.connections p.between (armed t.fuse t.shelf) p.shelf p.feeds)
+      (ends-kept-logs t.fuse p.between new.connections p.shelf new.shelf p.ends))
+      sides (λ x h. refl) (late-server devices lines t s.server number bytes new p)
 
   pub close-line : (number : ℕ) (new : TrialState) → PlaysClose number t new → new.sides ≡ t.sides → IsTrialSound devices (lines ++ Line.Close number ∷ []) new
   close-line number new p sides =
       with-line (Line.Close number) new refl (kept-same (logs_of t.connections) (logs_of new.connections) (ap logs_of p.connections ∙ shut-logs number t.connections)) sides (λ x h. refl)
-        (close-server devices lines t s.server number new p)
+      (close-server devices lines t s.server number new p)
 
   pub server-power-line : (new : TrialState) → PlaysServerPower t new → new.sides ≡ t.sides → IsTrialSound devices (lines ++ Line.Power Who.Server ∷ []) new
   server-power-line new p sides =
@@ -127,15 +128,17 @@ module _ (devices : List Device) (lines : List ScriptLine) (t : TrialState) (s :
       let c : ConnectionOutcome = p.server.opens.log in
       let imei : c.imei ≡ o.imei = p.server.opens.rounded.imei in
       let kept : AreKeptLogs (logs_of t.connections ++ c ∷ []) (logs_of new.connections) =
-          subst (λ logs. AreKeptLogs logs (logs_of new.connections)) (ap logs_of p.server.opens.is ∙ logs-append t.connections (record { log = c; going = p.server.opens.going && (opened lines l o).half_open } ∷ []))
-          (ends-kept-logs t.fuse p.server.between new.connections p.server.shelf new.shelf p.server.ends) in
+      subst (λ logs. AreKeptLogs logs (logs_of new.connections)) (ap logs_of p.server.opens.is ∙ logs-append t.connections (record { log = c; going = p.server.opens.going && (opened lines l o).half_open } ∷ []))
+      (ends-kept-logs t.fuse p.server.between new.connections p.server.shelf new.shelf p.server.ends) in
       record {
         server = round-server devices lines t s.server l o new makes covers spends p.server;
         sides = connection-sides devices lines t.connections new.connections t.sides s.server.connections.as_many s.sides l c connects kept (RoundsBy o.drains c) new.sides
             (λ x h other. after x h c.device ∙ unless-own o.imei x.imei (after_connection o.drains (Some c.device) h) h (eqb-flip x.imei o.imei (subst (λ n. (x.imei == n) ≡ false) imei other)))
-            (λ x d e heard h is device was r. (let made = side-rounded o.drains r.result (length (heard_of c)) heard (records_in (heard_of c)) h d e was r.rounds in
-              (made.0 ∙ device, subst (λ k. IsSideSound (heard ++ records_in (heard_of c)) k e)
-                (ap (λ end. after_connection o.drains (Some end) h) r.end ∙ sym (after x h c.device ∙ where-own o.imei x.imei (after_connection o.drains (Some c.device) h) h (sym imei ∙ sym is))) made.1)))
+            (λ x d e heard h is device was r. (let made = side-rounded o.drains r.result (length (heard_of c)) heard (records_in (heard_of c)) h d e was r.rounds in (
+              made.0 ∙ device,
+              subst (λ k. IsSideSound (heard ++ records_in (heard_of c)) k e)
+                  (ap (λ end. after_connection o.drains (Some end) h) r.end ∙ sym (after x h c.device ∙ where-own o.imei x.imei (after_connection o.drains (Some c.device) h) h (sym imei ∙ sym is))) made.1,
+            )))
             (subst (λ n. OneSide n (RoundsBy o.drains c) devices t.sides new.sides) (sym imei) p.sides);
       }
 

@@ -121,16 +121,16 @@ module _ (devices : List Device) (lines : List ScriptLine) (t : TrialState) (s :
       elim p.feeds as (λ _. IsServerSound devices (lines ++ l ∷ []) new) [
         | gives_nothing off same still ↦
             ends-server devices (lines ++ l ∷ []) (server_of lines).fuse hs p.between p.shelf new (connections-push lines l)
-              (subst (AreConnectionsSound devices (lines ++ l ∷ []) hs) (sym same) (nothing-connections devices lines number bytes t.connections ready s.connections ready-right off))
-              (subst (λ (z : List Connection × ShelfView). IsRightShelf (given_in hs (logs_of z.0)) (counted_in (logs_of z.0)) z.1) (λ i. (sym same i, sym still i)) (nothing-archive devices lines number bytes t.connections ready s.connections ready-right))
-              (λ none. (ap (λ (v : ShelfView). v.down) still ∙ ready-up, ap (λ (v : ShelfView). v.medium.left) still ∙ (ready-left ∙ ap left_by none))) ends fuse
+            (subst (AreConnectionsSound devices (lines ++ l ∷ []) hs) (sym same) (nothing-connections devices lines number bytes t.connections ready s.connections ready-right off))
+            (subst (λ (z : List Connection × ShelfView). IsRightShelf (given_in hs (logs_of z.0)) (counted_in (logs_of z.0)) z.1) (λ i. (sym same i, sym still i)) (nothing-archive devices lines number bytes t.connections ready s.connections ready-right))
+            (λ none. (ap (λ (v : ShelfView). v.down) still ∙ ready-up, ap (λ (v : ShelfView). v.medium.left) still ∙ (ready-left ∙ ap left_by none))) ends fuse
         | gives n h w failed b more server going is_number at_h at_w on up_is f same ↦
             ends-server devices (lines ++ l ∷ []) (server_of lines).fuse hs p.between p.shelf new (connections-push lines l)
-              (subst (AreConnectionsSound devices (lines ++ l ∷ []) hs) (sym same)
-                (gives-connections devices lines number bytes t.connections ready s.connections ready-right n h w failed b more server going p.shelf ready-up ready-left is_number at_h at_w on up_is f))
-              (subst (λ z. IsRightShelf (given_in hs (logs_of z)) (counted_in (logs_of z)) p.shelf) (sym same)
-                (gives-archive devices lines number bytes t.connections ready s.connections ready-right n h w failed b more server going p.shelf ready-up ready-left is_number at_h at_w on up_is f))
-              (calm-serves w.log.imei failed (frames_between w.log.up_given b w.log.up) ready p.shelf (server_of lines).fuse ready-up ready-left f.serves) ends fuse
+            (subst (AreConnectionsSound devices (lines ++ l ∷ []) hs) (sym same)
+            (gives-connections devices lines number bytes t.connections ready s.connections ready-right n h w failed b more server going p.shelf ready-up ready-left is_number at_h at_w on up_is f))
+            (subst (λ z. IsRightShelf (given_in hs (logs_of z)) (counted_in (logs_of z)) p.shelf) (sym same)
+            (gives-archive devices lines number bytes t.connections ready s.connections ready-right n h w failed b more server going p.shelf ready-up ready-left is_number at_h at_w on up_is f))
+            (calm-serves w.log.imei failed (frames_between w.log.up_given b w.log.up) ready p.shelf (server_of lines).fuse ready-up ready-left f.serves) ends fuse
       ]
 
   -- A `round` or `drain` line.
@@ -138,10 +138,10 @@ module _ (devices : List Device) (lines : List ScriptLine) (t : TrialState) (s :
       → (server_of (lines ++ l ∷ [])).fuse ≡ None → PlaysRound devices lines l o t new → IsServerSound devices (lines ++ l ∷ []) new
   round-server l o new makes covers spends p =
       ends-server devices (lines ++ l ∷ []) (server_of lines).fuse (connections_of lines ++ opened lines l o ∷ []) p.between p.shelf new (connections-push lines l ∙ makes)
-        (opens-connections devices lines l o t.connections p.between ready p.shelf makes covers s.connections ready-right ready-up ready-left p.opens)
-        (opens-archive devices lines l o t.connections p.between ready p.shelf makes covers s.connections ready-right ready-up ready-left p.opens)
-        (calm-serves p.opens.log.imei p.opens.failed (delivered_of p.opens.log) ready p.shelf (server_of lines).fuse ready-up ready-left p.opens.rounded.serves)
-        (subst (λ f. EndsLine f p.between new.connections p.shelf new.shelf) s.fuse p.ends) (p.fuse ∙ sym spends)
+      (opens-connections devices lines l o t.connections p.between ready p.shelf makes covers s.connections ready-right ready-up ready-left p.opens)
+      (opens-archive devices lines l o t.connections p.between ready p.shelf makes covers s.connections ready-right ready-up ready-left p.opens)
+      (calm-serves p.opens.log.imei p.opens.failed (delivered_of p.opens.log) ready p.shelf (server_of lines).fuse ready-up ready-left p.opens.rounded.serves)
+      (subst (λ f. EndsLine f p.between new.connections p.shelf new.shelf) s.fuse p.ends) (p.fuse ∙ sym spends)
 
   -- The server's `power` line: as the end of a line that is covered.
   pub power-server : (new : TrialState) → PlaysServerPower t new → IsServerSound devices (lines ++ Line.Power Who.Server ∷ []) new
@@ -161,21 +161,25 @@ module _ (devices : List Device) (lines : List ScriptLine) (t : TrialState) (s :
       let ws = changed_at shut number t.connections in
       let logs = shut-logs number t.connections in
       let from : (k : ℕ) (v : Connection) → slice_get ws k ≡ Some v → (w : Connection) × (slice_get t.connections k ≡ Some w) × (v.log ≡ w.log)
-            × (number ≡ suc k → (h : ConnectionHistory) → IsSoundBy devices lines (logs_of t.connections) k h w → IsSoundBy devices lines (logs_of t.connections) k (closed h) v) × ((number ≡ suc k → ⊥) → v ≡ w) =
-          (λ k v at. close-from k v (get-changed shut number t.connections k v at)) in
+      × (number ≡ suc k → (h : ConnectionHistory) → IsSoundBy devices lines (logs_of t.connections) k h w → IsSoundBy devices lines (logs_of t.connections) k (closed h) v) × ((number ≡ suc k → ⊥) → v ≡ w) =
+      (λ k v at. close-from k v (get-changed shut number t.connections k v at)) in
       ends-server devices (lines ++ l ∷ []) None hs ws t.shelf new (connections-push lines l)
-        (changed-connections devices lines l closed number None t.connections (connections-push lines l) (λ h. refl) s.connections ws (length-changed shut number t.connections) logs from)
-        (subst (λ (z : List ConnectionHistory × List ConnectionOutcome). IsRightShelf (given_in z.0 z.1) (counted_in z.1) t.shelf) (λ i. (sym (number-changed closed number (connections_of lines)) i, sym logs i))
-          (shelf-weaker (given_in (connections_of lines) (logs_of t.connections)) (counted_in (logs_of t.connections)) (given_in (changed_at closed number (connections_of lines)) (logs_of t.connections)) (counted_in (logs_of t.connections)) t.shelf
-            (λ j. given-changed closed (λ h n. omega arith) j number (connections_of lines) (logs_of t.connections)) (λ j. in-itself (counted_in (logs_of t.connections) j)) s.archive))
-        (λ _. (s.up, s.idle)) (p.connections, p.shelf) (p.fuse ∙ (s.fuse ∙ sym (fuse-push lines l)))
+      (changed-connections devices lines l closed number None t.connections (connections-push lines l) (λ h. refl) s.connections ws (length-changed shut number t.connections) logs from)
+      (subst (λ (z : List ConnectionHistory × List ConnectionOutcome). IsRightShelf (given_in z.0 z.1) (counted_in z.1) t.shelf) (λ i. (sym (number-changed closed number (connections_of lines)) i, sym logs i))
+      (shelf-weaker (given_in (connections_of lines) (logs_of t.connections)) (counted_in (logs_of t.connections)) (given_in (changed_at closed number (connections_of lines)) (logs_of t.connections)) (counted_in (logs_of t.connections)) t.shelf
+      (λ j. given-changed closed (λ h n. omega arith) j number (connections_of lines) (logs_of t.connections)) (λ j. in-itself (counted_in (logs_of t.connections) j)) s.archive))
+      (λ _. (s.up, s.idle)) (p.connections, p.shelf) (p.fuse ∙ (s.fuse ∙ sym (fuse-push lines l)))
     where
       close-from : (k : ℕ) (v : Connection) → (w : Connection) × (slice_get t.connections k ≡ Some w) × (((number ≡ suc k) × (v ≡ shut w)) ⊎ ((number ≡ suc k → ⊥) × (v ≡ w)))
           → (w : Connection) × (slice_get t.connections k ≡ Some w) × (v.log ≡ w.log)
-            × (number ≡ suc k → (h : ConnectionHistory) → IsSoundBy devices lines (logs_of t.connections) k h w → IsSoundBy devices lines (logs_of t.connections) k (closed h) v) × ((number ≡ suc k → ⊥) → v ≡ w)
-      close-from k v (w, at, inl (there, is)) = (w, at, ap (λ (x : Connection). x.log) is,
-          (λ _ h was. subst (λ x. IsSoundBy devices lines (logs_of t.connections) k (closed h) x) (sym is) (closed-sound lines (logs_of t.connections) (known_by devices h) (cover_by h) (earlier_by devices (logs_of t.connections) h) k h w was)),
-          (λ other. absurd (other there)))
+          × (number ≡ suc k → (h : ConnectionHistory) → IsSoundBy devices lines (logs_of t.connections) k h w → IsSoundBy devices lines (logs_of t.connections) k (closed h) v) × ((number ≡ suc k → ⊥) → v ≡ w)
+      close-from k v (w, at, inl (there, is)) = (
+        w,
+        at,
+        ap (λ (x : Connection). x.log) is,
+        (λ _ h was. subst (λ x. IsSoundBy devices lines (logs_of t.connections) k (closed h) x) (sym is) (closed-sound lines (logs_of t.connections) (known_by devices h) (cover_by h) (earlier_by devices (logs_of t.connections) h) k h w was)),
+        (λ other. absurd (other there)),
+      )
       close-from k v (w, at, inr (other, is)) = (w, at, ap (λ (x : Connection). x.log) is, (λ there h was. absurd (other there)), (λ _. is))
 
   -- The server's `fuse` line.

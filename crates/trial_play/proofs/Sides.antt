@@ -60,7 +60,7 @@ sides-after imei R heard later history after one others (x ∷ xs) (d ∷ ds) (e
     | inr other ↦
         (let same = others x other.0 in
         subst (λ (v : Side). (v.device ≡ x) × IsSideSound (later x.imei) (after x) v) (sym other.1)
-          (s.0.0, subst (λ (z : List Record × DeviceHistory). IsSideSound z.0 z.1 d) (λ i. (sym same.0 i, sym same.1 i)) s.0.1))
+        (s.0.0, subst (λ (z : List Record × DeviceHistory). IsSideSound z.0 z.1 d) (λ i. (sym same.0 i, sym same.1 i)) s.0.1))
   ],
   sides-after imei R heard later history after one others xs ds es o.1 s.1,
 )
@@ -91,8 +91,8 @@ module _ (devices : List Device) (lines : List ScriptLine) (ws new : List Connec
   device-sides l imei R after none kept stays goes one =
       sides-after imei R (heard_in (logs_of ws)) (heard_in (logs_of new)) (history_in lines (logs_of ws)) (history_in (lines ++ l ∷ []) (logs_of new))
       (λ x d e is device was r. subst (λ (z : List Record × DeviceHistory). (e.device ≡ x) × IsSideSound z.0 z.1 e)
-        (λ i. (sym (heard-kept x.imei (logs_of ws) (logs_of new) kept) i, sym (line-history x l none kept) i))
-        (goes x d e (heard_in (logs_of ws) x.imei) (history_in lines (logs_of ws) x) is device was r))
+      (λ i. (sym (heard-kept x.imei (logs_of ws) (logs_of new) kept) i, sym (line-history x l none kept) i))
+      (goes x d e (heard_in (logs_of ws) x.imei) (history_in lines (logs_of ws) x) is device was r))
       (λ x other. (heard-kept x.imei (logs_of ws) (logs_of new) kept, line-history x l none kept ∙ stays x (history_in lines (logs_of ws) x) other)) devices sides after one sound
 
   -- A line of one device that connects.
@@ -115,10 +115,10 @@ module _ (devices : List Device) (lines : List ScriptLine) (ws new : List Connec
     pub connection-sides : (R : Side → Side → Type 0) (after : List Side)
         → ((x : Device) (h : DeviceHistory) → (x.imei == c.imei) ≡ false → after_line x h (Some c.device) l ≡ h)
         → ((x : Device) (d e : Side) (heard : List Record) (h : DeviceHistory) → x.imei ≡ c.imei → d.device ≡ x → IsSideSound heard h d → R d e
-          → (e.device ≡ x) × IsSideSound (heard ++ records_in (heard_of c)) (after_line x h (Some c.device) l) e)
+        → (e.device ≡ x) × IsSideSound (heard ++ records_in (heard_of c)) (after_line x h (Some c.device) l) e)
         → OneSide c.imei R devices sides after → AreSidesSound (heard_in (logs_of new)) (history_in (lines ++ l ∷ []) (logs_of new)) devices after
     connection-sides R after stays goes one =
         sides-after c.imei R (heard_in (logs_of ws)) (heard_in (logs_of new)) (history_in lines (logs_of ws)) (history_in (lines ++ l ∷ []) (logs_of new))
         (λ x d e is device was r. subst (λ (z : List Record × DeviceHistory). (e.device ≡ x) × IsSideSound z.0 z.1 e) (λ i. (sym (heard-own x is) i, sym (opens-history x) i))
-          (goes x d e (heard_in (logs_of ws) x.imei) (history_in lines (logs_of ws) x) is device was r))
+        (goes x d e (heard_in (logs_of ws) x.imei) (history_in lines (logs_of ws) x) is device was r))
         (λ x other. (heard-other x other, opens-history x ∙ stays x (history_in lines (logs_of ws) x) other)) devices sides after one sound

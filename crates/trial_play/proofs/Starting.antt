@@ -1,10 +1,8 @@
 -- A trial before its first line is sound, and so the headline of a trial that is played line by line.
-use Rattle.std.proofs.Common.{◌≡◌, ℕ, true, List, [], ◌∷◌, slice_get, Some, None, refl, sym, ◌∙◌, ap, subst, arith}
+use Rattle.std.proofs.Common.{◌≡◌, List, [], ◌∷◌, Some, None, refl, sym, subst}
 use Rattle.std.specs.List.{AllZip}
-use Rattle.archive_journal.specs.Entries.{entries_of}
-use Rattle.journey_script.specs.Laws.{AreDistinct, HasLaws, is_device}
+use Rattle.journey_script.specs.Laws.{HasLaws}
 use Rattle.medium_model.specs.Content.{settled}
-use Rattle.trial_model.specs.Connections.{ConnectionHistory, connections_of}
 use Rattle.trial_model.specs.Decisions.{before_all}
 use Rattle.trial_model.specs.Kept.{Kept}
 use Rattle.trial_model.specs.Script.{Device, Script, devices_of, lines_of}
@@ -12,11 +10,10 @@ use Rattle.trial_device.specs.Sides.{IsSideSound, Side}
 use Rattle.trial_device.specs.Starting.{StartsSide}
 use Rattle.trial_device.proofs.Starting.{side-starts}
 use Rattle.trial_server.proofs.Starting.{starts-shelf}
-use Rattle.trial_wire.specs.Connections.{Connection}
 use Rattle.trial_play.specs.Outcomes.{outcome_of}
 use Rattle.trial_play.specs.Plays.{PlaysAll}
 use Rattle.trial_play.specs.Starting.{StartsTrial}
-use Rattle.trial_play.specs.Trials.{AreConnectionsSound, IsSoundBy, IsTrialSound, TrialState, counted_in, given_in}
+use Rattle.trial_play.specs.Trials.{AreConnectionsSound, IsTrialSound, TrialState, counted_in, given_in}
 use Rattle.trial_play.proofs.Ending.{kept-whole}
 use Rattle.trial_play.proofs.Places.{none-some}
 use Rattle.trial_play.proofs.Playing.{plays-all}

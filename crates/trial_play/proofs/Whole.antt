@@ -1,29 +1,28 @@
 -- A round that is delivered whole empties its batch.
-use Rattle.std.proofs.Common.{◌≡◌, ◌≤◌, ◌<◌, inl, inr, ℕ, zero, suc, ◌+◌, ◌-◌, ◌*◌, ◌/◌, ◌&&◌, nat_le, Bool, true, false, List, [], ◌∷◌, ◌++◌, drop, filter, length, take, Option, Some, None, is_none, if◌then◌else◌, refl, sym, ◌∙◌, ap, subst, arith, length-append}
+use Rattle.std.proofs.Common.{◌≡◌, ◌≤◌, inl, inr, ℕ, zero, suc, ◌+◌, ◌-◌, ◌*◌, ◌/◌, ◌&&◌, nat_le, Bool, true, false, List, [], ◌∷◌, drop, filter, length, take, Option, Some, None, is_none, if◌then◌else◌, refl, sym, ◌∙◌, ap, subst, arith}
 use Rattle.std.specs.List.{starts_with}
 use Rattle.std.specs.Prelude.{nat_eq}
 use Rattle.std.specs.Str.{bytes_eq}
 use Rattle.std.proofs.lemmas.Slice.Eq.{bytes_eq-Decides}
-use Rattle.std.proofs.lemmas.Bool.{cases_Bool, false≢true, true≢false}
+use Rattle.std.proofs.lemmas.Bool.{cases_Bool, false≢true}
 use Rattle.std.proofs.lemmas.Bool.Decides.{leb_tells}
 use Rattle.std.proofs.lemmas.List.{length-drop, length-take}
 use Rattle.avl_values.specs.Record.{Record}
-use Rattle.frame_layout.specs.Items.{frame_of, login_of}
+use Rattle.frame_layout.specs.Items.{frame_of}
 use Rattle.record_layout.specs.RecordsOf.{records_of}
 use Rattle.trial_model.specs.declared.outcome.ConnectionOutcome.{ConnectionOutcome}
 use Rattle.trial_model.specs.declared.outcome.DeviceEnd.{DeviceEnd}
 use Rattle.trial_model.specs.declared.outcome.DeviceEnd.TheVariants as End
 use Rattle.trial_model.specs.Answers.{HasDeviceEnd, IsDone, counted_of, is_fault}
 use Rattle.trial_model.specs.Connections.{ConnectionHistory, is_whole, up_to}
-use Rattle.trial_model.specs.Delivery.{delivered_of, heard_bytes, heard_of}
-use Rattle.trial_model.specs.Frames.{Frame, Stream, body_at, counts_of, frames_from, frames_of, frames_within, has_frame, is_packet, login_size, records_in, with_frame}
+use Rattle.trial_model.specs.Delivery.{delivered_of, heard_bytes}
+use Rattle.trial_model.specs.Frames.{Frame, body_at, counts_of, frames_from, frames_of, frames_within, has_frame, is_packet, login_size, records_in, with_frame}
 use Rattle.trial_model.specs.Logs.{HasFewFrames, HasWholeLog, IsSent, IsWholeStream, answers_to}
 use Rattle.trial_model.specs.RecordLists.{AreIn}
 use Rattle.trial_model.specs.WholeRounds.{EmptiesBatch, IsOneFrame}
 use Rattle.trial_server.proofs.Containing.{in-then}
 use Rattle.trial_wire.specs.Connections.{HasFrame, IsHeard}
-use Rattle.trial_wire.proofs.Logs.{answers-all, answers-most, counts-length, heard-counted}
-use Rattle.trial_wire.proofs.Passing.{up_to-least}
+use Rattle.trial_wire.proofs.Logs.{answers-all, counts-length, heard-counted}
 use Rattle.trial_wire.proofs.Reading.{frame-length, login-length}
 use Rattle.trial_play.proofs.Places.{both-true}
 
@@ -51,12 +50,13 @@ fits-from (suc most) place bytes = split (fits-from most (place + (12 + length (
   where
     split : AllEnd ((place + (12 + length (body_at bytes))) + length (drop (12 + length (body_at bytes)) bytes)) (frames_from most (place + (12 + length (body_at bytes))) (drop (12 + length (body_at bytes)) bytes)).frames
         → (b : Bool) → has_frame bytes ≡ b → AllEnd (place + length bytes) (if b then with_frame (record { end = place + (12 + length (body_at bytes)); records = records_of (body_at bytes) })
-            (frames_from most (place + (12 + length (body_at bytes))) (drop (12 + length (body_at bytes)) bytes)) else record { frames = []; rest = bytes }).frames
+        (frames_from most (place + (12 + length (body_at bytes))) (drop (12 + length (body_at bytes)) bytes)) else record { frames = []; rest = bytes }).frames
     split later true has =
-        let fits = frame-fits bytes has in
-        (omega (arith, fits),
+        let fits = frame-fits bytes has in (
+          omega (arith, fits),
           ends-later ((place + (12 + length (body_at bytes))) + length (drop (12 + length (body_at bytes)) bytes)) (place + length bytes) (frames_from most (place + (12 + length (body_at bytes))) (drop (12 + length (body_at bytes)) bytes)).frames
-            (omega (arith, fits, length-drop (12 + length (body_at bytes)) bytes)) later)
+              (omega (arith, fits, length-drop (12 + length (body_at bytes)) bytes)) later,
+        )
     split later false has = tt
 
 all-within : (n : ℕ) (fs : List Frame) → AllEnd n fs → filter (λ f. nat_le f.end n) fs ≡ fs
@@ -129,7 +129,7 @@ module _ (earlier : List Record) (h : ConnectionHistory) (c : ConnectionOutcome)
       let lacks = d.broken.0 is in
       let long = long-up stream in
       let counted : counted_of c ≡ frames_of c.up =
-          ap (λ b. if b then take (length (delivered_of c) - 1) (delivered_of c) else delivered_of c) good ∙ (ap (λ n. frames_within n c.up) all-up ∙ within-whole c.up long) in
+      ap (λ b. if b then take (length (delivered_of c) - 1) (delivered_of c) else delivered_of c) good ∙ (ap (λ n. frames_within n c.up) all-up ∙ within-whole c.up long) in
       let size : length c.down ≡ 1 + 4 * length (frames_of c.up) = (let down = ap length (down-is stream) in let counts = counts-length (counted_of c) in let frames = ap length counted in omega (arith, down, counts, frames)) in
       let bytes : length (heard_bytes c) ≡ length c.down = (let n = length-take c.down_given c.down in let all = all-down in omega (arith, n, all)) in
       elim lacks.1 as (λ _. ⊥) [
