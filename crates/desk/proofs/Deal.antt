@@ -57,7 +57,7 @@ module _ (o : Shelved) (seats given : ℕ) (m : Place) (dealing : IsDealing o se
 pub place-alone : (o : Shelved) (n : ℕ) (m : Place) → m ≡ (view o [] (n ∷ []) Idle 0, []) → IsAlone Idle m.0
 place-alone o n m is = subst (λ (p : Place). IsAlone Idle p.0) (sym is) (record { at = refl; no_seen = refl; no_numbers = refl; numbered = omega arith })
 
-get-snoc : {A : Type 0} (xs : List A) (x y : A) (k : ℕ) → slice_get (xs ++ x ∷ []) k ≡ Some y → (slice_get xs k ≡ Some y) ⊎ ((k ≡ length xs) × (x ≡ y))
+pub get-snoc : {A : Type 0} (xs : List A) (x y : A) (k : ℕ) → slice_get (xs ++ x ∷ []) k ≡ Some y → (slice_get xs k ≡ Some y) ⊎ ((k ≡ length xs) × (x ≡ y))
 get-snoc [] x y zero at = inr (refl, some-same x y at)
 get-snoc [] x y (suc k) at = absurd (let never : None ≡ Some y = at in cc)
 get-snoc (z ∷ xs) x y zero at = inl at

@@ -24,7 +24,7 @@ pub enum Step {
     Power,
 }
 
-/// How many records stand in each list, and on flash, each once.
+/// How many records are in each list, and on flash, each once.
 #[derive(Clone, Copy, Debug, PartialEq, Eq)]
 pub struct Counts {
     pub acquired: usize,

@@ -1,4 +1,3 @@
 pub mod ReadLemmas
-pub mod RunLemmas
 pub mod ShowLemmas
 pub mod TrialLemmas

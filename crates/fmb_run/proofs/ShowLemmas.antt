@@ -7,10 +7,10 @@ use Rattle.text_streams.specs.States.{SourceState, SinkState}
 use Rattle.text_streams.specs.Writes as writes
 use Rattle.fmb_host.specs.Host.{HostView, HandsOut, TakesBack, counted_once, with_host_fault}
 use Rattle.fmb_show.specs.Shown.{shown, shown_front}
-use Rattle.fmb_run.specs.Printed.{Prints, and_no_memory}
+use Rattle.fmb_io.specs.Printed.{Prints, and_no_memory}
 use Rattle.fmb_run.specs.Show.{RanShow}
-use Rattle.fmb_run.specs.Text.{IsOpened, IsTextOf, OfText}
-use Rattle.fmb_run.proofs.RunLemmas.{counted_back, kept_back, on_sink, once_none, once_some, opened_and_used, prints_on, used_and_back}
+use Rattle.fmb_io.specs.Text.{IsOpened, IsTextOf, OfText}
+use Rattle.fmb_io.proofs.Steps.{counted_back, kept_back, on_sink, once_none, once_some, opened_and_used, prints_on, used_and_back}
 
 -- What a capture comes to on a source and a sink, by its status.
 pub record ShowsOn (status : ℕ) (source read : SourceState) (first last : SinkState) : Type 0 where
@@ -89,5 +89,5 @@ unopened_show word before mid after counted line said = record {
   counts_before = λ not_source not_host. absurd (not_host refl);
   kept_before = ap (λ h. h.kept) said ∙ ap (λ h. h.kept) counted;
   returned = λ not_host. absurd (not_host refl);
-  nothing_opened = λ e. (ap (λ h. h.texts) said ∙ ap (λ h. h.texts) counted, ap (λ h. h.returns) said ∙ ap (λ h. h.returns) counted);
+  nothing_opened = λ e. ap (λ h. h.texts) said ∙ ap (λ h. h.texts) counted;
 }

@@ -2,7 +2,7 @@
 use Rattle.std.specs.Prelude.{◌≡◌, ◌⊎◌, ℕ, List, Option, None, Some, ⊤, codes}
 use Rattle.fmb_host.specs.Host.{HostView}
 use Rattle.fmb_words.specs.Values.{WordsValue, show, trial}
-use Rattle.fmb_run.specs.Printed.{Prints}
+use Rattle.fmb_io.specs.Printed.{Prints}
 
 -- the words ask to show a file, and this holds of its name
 abbrev pub IfShow : Option WordsValue → (List ℕ → Type 0) → Type 0

@@ -3,8 +3,8 @@ use Rattle.std.specs.Prelude.{◌≡◌, ◌≢◌, ◌⊎◌, ◌+◌, ℕ, Lis
 use Rattle.std.specs.Io.KnownBytes.{IsAtEnd}
 use Rattle.fmb_host.specs.Host.{HostView}
 use Rattle.fmb_show.specs.Shown.{shown, shown_front}
-use Rattle.fmb_run.specs.Printed.{Prints, PrintsFront, PrintsWhole, SinkFailed, SinkSteady, and_no_memory}
-use Rattle.fmb_run.specs.Text.{HasNext, IsReturned, OfOpened, OpensNothing}
+use Rattle.fmb_io.specs.Printed.{Prints, PrintsFront, PrintsWhole, SinkFailed, SinkSteady, and_no_memory}
+use Rattle.fmb_io.specs.Text.{HasNext, IsReturned, OfOpened, OpensNothing}
 
 -- A capture that a host opens by a name: 0 all that is shown of it was printed, 5 the sink failed on that, 3 it has a first fault,
 -- 4 the text failed, 7 the host failed to open it, 9 memory ran out.

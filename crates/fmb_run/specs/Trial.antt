@@ -2,8 +2,8 @@
 use Rattle.std.specs.Prelude.{◌≡◌, ◌≢◌, ◌⊎◌, ◌+◌, ℕ, Bool, List, Option, Some, Ok, Err, codes}
 use Rattle.std.specs.Io.KnownBytes.{IsAtEnd}
 use Rattle.fmb_host.specs.Host.{HostView}
-use Rattle.fmb_run.specs.Printed.{Prints, PrintsFront, PrintsWhole, SinkFailed, SinkSteady}
-use Rattle.fmb_run.specs.Text.{HasNext, IsReturned, OfOpened, OpensNothing}
+use Rattle.fmb_io.specs.Printed.{Prints, PrintsFront, PrintsWhole, SinkFailed, SinkSteady}
+use Rattle.fmb_io.specs.Text.{HasNext, IsReturned, OfOpened, OpensNothing}
 use Rattle.text_streams.specs.Refused.{refused_line}
 use Rattle.fmb_text.specs.Report.{report}
 use Rattle.trial_bench.specs.PlainScript.{Refusal, kind_name, script_of}

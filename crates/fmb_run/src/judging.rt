@@ -1,29 +1,18 @@
 ghost use Rattle.std.specs.Prelude.{◌≡◌, ◌⊎◌, Some, codes};
-ghost use Rattle.fmb_run.specs.Printed.{Prints, PrintsFront, PrintsWhole, SinkFailed, SinkSteady};
+ghost use Rattle.fmb_io.specs.Printed.{Prints, PrintsFront, PrintsWhole, SinkFailed, SinkSteady};
 ghost use Rattle.fmb_run.specs.Trial.{Judged};
 ghost use Rattle.text_streams.specs.Refused.{refused_line};
 ghost use Rattle.fmb_text.specs.Report.{report};
 ghost use Rattle.trial_bench.specs.PlainScript.{kind_name};
 
-use crate::printing::{print, say};
-use crate::status::{DONE, NO_MEMORY, REFUSED_TEXT, SINK_FAULT};
 use avl_values::Failed;
 use fmb_host::Host;
+use fmb_io::{DONE, REFUSED_TEXT, SINK_FAULT, give_up, print, say};
 use fmb_text::report_text;
 use std::alloc::Global;
 use text_streams::refused_text;
 use trial_bench::{PlainFault, PlainKind, plain_trial};
 use trial_model::Outcome;
-
-/// Says that memory ran out, and changes nothing else. Returns the status of that.
-pub fn give_up<H: Host>(host: &mut H) -> u8
-    ensures status { result ≡ 9 }
-    ensures line { Prints (codes "no memory\n") (H.view host.old) (H.view host.new) }
-    ensures others { H.view host.new ≡ record (H.view host.old) { sink = (H.view host.new).sink } }
-{
-    say(host, b"no memory\n");
-    NO_MEMORY
-}
 
 /// Prints the line of a text that was refused.
 fn refuse<H: Host>(alloc: Global, host: &mut H, line: u32, kind: PlainKind) -> u8

@@ -4,17 +4,13 @@
 #![tactic(auto)]
 
 mod judging;
-mod printing;
-mod reading;
 mod running;
 mod showing;
-mod status;
 #[cfg(test)]
 mod tests;
 
-pub use judging::give_up;
+pub use fmb_io::{
+    DONE, HOST_FAULT, NO_MEMORY, REFUSED_TEXT, REFUSED_WORDS, SINK_FAULT, SOURCE_FAULT, give_up,
+};
 pub use running::{run, run_trial};
 pub use showing::run_show;
-pub use status::{
-    DONE, HOST_FAULT, NO_MEMORY, REFUSED_TEXT, REFUSED_WORDS, SINK_FAULT, SOURCE_FAULT,
-};

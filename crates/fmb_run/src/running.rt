@@ -1,53 +1,17 @@
-ghost use Rattle.std.specs.Prelude.{◌≡◌, ◌≢◌, ◌⊎◌, ◌+◌, ◌<◌, ◌^◌, IfOk, Err, None, false, length, map, string_bytes};
-ghost use Rattle.std.specs.Io.KnownBytes.{IsAtEnd};
-ghost use Rattle.fmb_host.specs.Host.{AreSmall, with_host_fault};
+ghost use Rattle.std.specs.Prelude.{◌≡◌, ◌⊎◌, None, false, map, string_bytes};
+ghost use Rattle.fmb_host.specs.Host.{AreSmall};
 ghost use Rattle.fmb_run.specs.Asked.{IfShow, IfTrial, RanOut, RefusesWords};
 ghost use Rattle.fmb_run.specs.Show.{RanShow, ShowRefuses, ShowShows};
-ghost use Rattle.fmb_run.specs.Text.{IsReturned, ReadsText};
 ghost use Rattle.fmb_run.specs.Trial.{RanTrial, TrialPlays, TrialRefuses};
 ghost use Rattle.fmb_words.specs.PlainWords.{names_command};
 ghost use Rattle.fmb_words.specs.Words.{words_of};
 
-use crate::judging::{give_up, judge};
-use crate::printing::say;
-use crate::reading::{Unread, read_text};
+use crate::judging::judge;
 use crate::showing::run_show;
-use crate::status::{HOST_FAULT, REFUSED_WORDS, SOURCE_FAULT};
 use fmb_host::Host;
+use fmb_io::{HOST_FAULT, Missing, REFUSED_WORDS, SOURCE_FAULT, fetch, give_up, say};
 use fmb_words::{Words, WordsFault, read_words};
 use std::alloc::Global;
-
-/// Why a text was not had from the host.
-#[derive(Clone, Copy, Debug, PartialEq, Eq)]
-pub(crate) enum Missing {
-    /// The host failed to open it.
-    Host,
-    /// It failed while it was read.
-    Source,
-    NoMemory,
-}
-
-/// Opens a text, reads it, and gives it back.
-fn fetch<H: Host>(alloc: Global, host: &mut H, name: &str) -> Result<Vec<u8>, Missing>
-    requires { AreSmall (H.view host.old).counts }
-    ensures text { IfOk result (λ text. ReadsText name.now text.items (H.view host.old) (H.view host.new)) }
-    ensures returned { result ≢ Err Missing.Host → IsReturned (λ read. IfOk result (λ text. IsAtEnd read.left ⊎ (2 ^ 24 < length text.items))) (H.view host.old) (H.view host.new) }
-    ensures counts { result ≢ Err Missing.Host → result ≢ Err Missing.Source → (H.view host.new).counts ≡ (H.view host.old).counts }
-    ensures source_cause { result ≡ Err Missing.Source → (H.view host.new).counts ≡ record (H.view host.old).counts { texts = (H.view host.old).counts.texts + 1 } }
-    ensures host_cause { result ≡ Err Missing.Host → H.view host.new ≡ with_host_fault (H.view host.old) }
-    ensures others { H.view host.new ≡ record (H.view host.old) { counts = (H.view host.new).counts; texts = (H.view host.new).texts; returns = (H.view host.new).returns } }
-{
-    let Ok(mut source) = host.open_text(name) else {
-        return Err(Missing::Host);
-    };
-    let text = read_text(alloc, &mut source);
-    host.text_back(source);
-    match text {
-        Ok(text) => Ok(text),
-        Err(Unread::Failed) => Err(Missing::Source),
-        Err(Unread::NoMemory) => Err(Missing::NoMemory),
-    }
-}
 
 /// Plays the text that the host opens by this name as a trial, and prints its report, full or brief. Returns the status.
 pub fn run_trial<H: Host>(alloc: Global, host: &mut H, name: &str, brief: bool) -> u8

@@ -3,12 +3,11 @@ ghost use Rattle.std.specs.Prelude.{◌≡◌, ◌≢◌, ◌⊎◌, List, ℕ, 
 ghost use Rattle.std.specs.Io.KnownBytes.{IsAtEnd};
 ghost use Rattle.avl_values.specs.Causes.{Rose};
 ghost use Rattle.text_streams.specs.Writes.{HasFailed, IsSteady, Prints, PrintsFront, PrintsWhole};
-ghost use Rattle.fmb_run.specs.Printed.{and_no_memory};
-ghost use Rattle.fmb_run.specs.Text.{OfText};
+ghost use Rattle.fmb_io.specs.Printed.{and_no_memory};
+ghost use Rattle.fmb_io.specs.Text.{OfText};
 ghost use Rattle.fmb_show.specs.Shown.{shown as shown_of, shown_front};
 
-use crate::reading::{Unread, read_text};
-use crate::status::{DONE, NO_MEMORY, REFUSED_TEXT, SINK_FAULT, SOURCE_FAULT};
+use fmb_io::{DONE, NO_MEMORY, REFUSED_TEXT, SINK_FAULT, SOURCE_FAULT, Unread, read_text};
 use fmb_show::{ShowEnd, show_capture};
 use std::alloc::Global;
 use text_streams::{Sink, Source, write_text};

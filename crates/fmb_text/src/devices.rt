@@ -34,8 +34,9 @@ pub(crate) fn push_device_line(text: &mut Vec<u8>, device: &DeviceOutcome) -> Re
     Ok(())
 }
 
+/// Appends `LIST IMEI CODEC HEX` and a line's end. At NoMemory some of it may be there.
 #[tactic(auto, unfolding(crate::specs::Report::record_line))]
-fn push_record(
+pub fn push_record(
     alloc: Global,
     text: &mut Vec<u8>,
     list: &str,

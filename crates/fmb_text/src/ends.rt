@@ -16,8 +16,9 @@ pub(crate) fn word_of(codec: Codec) -> &'static str
     }
 }
 
+/// Appends the words for how a round ended. At NoMemory some of them may be there.
 #[tactic(auto, unfolding(crate::specs::Ends::device_end_words))]
-pub(crate) fn push_device_end(text: &mut Vec<u8>, end: DeviceEnd) -> Result<(), NoMemory>
+pub fn push_device_end(text: &mut Vec<u8>, end: DeviceEnd) -> Result<(), NoMemory>
     ensures { OnOk result (text.new.items ≡ text.old.items ++ device_end_words end) }
 {
     match end {
@@ -44,8 +45,9 @@ fn push_fault(text: &mut Vec<u8>, fault: Fault) -> Result<(), NoMemory>
     Ok(())
 }
 
+/// Appends the words for how a session ended. At NoMemory some of them may be there.
 #[tactic(auto, unfolding(crate::specs::Ends::server_end_words))]
-pub(crate) fn push_server_end(text: &mut Vec<u8>, end: ServerEnd) -> Result<(), NoMemory>
+pub fn push_server_end(text: &mut Vec<u8>, end: ServerEnd) -> Result<(), NoMemory>
     ensures { OnOk result (text.new.items ≡ text.old.items ++ server_end_words end) }
 {
     match end {

@@ -7,4 +7,6 @@ mod devices;
 mod ends;
 mod report;
 
+pub use devices::push_record;
+pub use ends::{push_device_end, push_server_end};
 pub use report::report_text;

@@ -46,7 +46,7 @@ in-records [] b is = absurd is
 in-records (c ∷ bs) b (inl here) = inl (ap (λ (x : Brought). x.records) here)
 in-records (c ∷ bs) b (inr there) = inr (in-records bs b there)
 
-each-in : {X : Type 0} (P : X → Type 0) (xs : List X) (x : X) → Each P xs → In xs x → P x
+pub each-in : {X : Type 0} (P : X → Type 0) (xs : List X) (x : X) → Each P xs → In xs x → P x
 each-in P [] x e is = absurd is
 each-in P (y ∷ ys) x e (inl here) = subst P here e.0
 each-in P (y ∷ ys) x e (inr there) = each-in P ys x e.1 there
@@ -121,6 +121,21 @@ few-more (ends.MediumFault faults) bs is = one-more _ bs is
 few-more (ends.Down faults) bs is = one-more _ bs is
 few-more ends.NoMemory bs is = one-none-more _ bs is
 
+-- and it is the one that stands there
+alone : {X : Type 0} (xs : List X) (x : X) → AtMostOne xs → In xs x → xs ≡ x ∷ []
+alone [] x few is = absurd is
+alone (y ∷ []) x few (inl here) = ap (λ z. z ∷ []) here
+alone (y ∷ []) x few (inr there) = absurd there
+alone (y ∷ z ∷ xs) x few is = absurd few
+
+-- a call of this device, with places, brought the record
+pub record IsCalled (all : List Brought) (imei : ℕ) (r : Record) : Type 0 where
+  pub call : Brought
+  pub made : In all call
+  pub device : call.imei ≡ imei
+  pub stored : HasPlaces call.answer
+  pub has : In call.records r
+
 -- What the record list has.
 
 record Kept (before : List StoredValue) (served : Served) (taken : List ℕ) (list : List StoredValue) : Type 0 where
@@ -180,6 +195,26 @@ module _ (served : Served) (mark : Mark) (taken : List ℕ) (all : List Brought)
 
   same-imei : (x y : ℕ) (o : Option ℕ) → o ≡ Some x → o ≡ Some y → x ≡ y
   same-imei x y o p q = let e : Some x ≡ Some y = sym p ∙ q in cc
+
+  -- A record that one of its calls brought is its device's, and is in the frames that were counted or in the one after them.
+  pub call-in-frames : (b : Brought) (r : Record) → In all b → In b.records r → (served.imei ≡ Some b.imei) × In (records_of_first (served.frames + 1) taken) r
+  call-in-frames b r made is =
+      elim (in-append a.counted a.more b (subst (λ (bs : List Brought). In bs b) a.are made)) as (λ _. (served.imei ≡ Some b.imei) × In (records_of_first (served.frames + 1) taken) r) [
+        | inl first ↦ (own b first, in-first b r first is)
+        | inr last ↦ (let only = alone a.more b (few-more served.end a.more a.follows) last in (own-last b only, in-last b r only is))
+      ]
+
+  -- A record of a frame that was counted was brought by a call with places.
+  pub frame-is-called : (imei : ℕ) (r : Record) → served.imei ≡ Some imei → In (records_of_first served.frames taken) r → IsCalled all imei r
+  frame-is-called imei r who is =
+      let found = joined-in a.counted r (subst (λ (x : List (List Record)). In (flat_map (λ y. y) x) r) first-rows is) in
+      record {
+        call = found.0;
+        made = subst (λ (bs : List Brought). In bs found.0) (sym a.are) (in-left a.counted a.more found.0 found.1);
+        device = same-imei found.0.imei imei served.imei (own found.0 found.1) who;
+        stored = each-in (λ b. HasPlaces b.answer) a.counted found.0 a.stored found.1;
+        has = found.2;
+      }
 
   -- the list after the calls that were counted
   kept-counted : (before : List StoredValue) (down : Bool) → IsLegal before down a.counted → Kept before served taken (replay before a.counted)

@@ -45,7 +45,7 @@ connections-fold h (l ∷ lines) = omega (arith, connections-fold (server_after 
 pub connections-count : (lines : List ScriptLine) → length (connections_of lines) ≡ connecting lines
 connections-count lines = (let n = connections-fold (record { lines = []; connections = []; fuse = None }) lines in omega (arith, n))
 
--- the lines before stand in the server's history
+-- the lines before are in the server's history
 pub server-lines : (lines : List ScriptLine) → (server_of lines).lines ≡ lines
 server-lines lines = from (record { lines = []; connections = []; fuse = None }) lines
   where

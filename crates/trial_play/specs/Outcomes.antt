@@ -1,4 +1,4 @@
--- The outcome of a trial, read off its state. The end of a connection that is half-open yet stands in its log.
+-- The outcome of a trial, read off its state. The end of a connection that is half-open yet is in its log.
 use Rattle.std.specs.Prelude.{map}
 use Rattle.flash_ring.specs.Entries.{held_of}
 use Rattle.shelf.specs.Archive.{recs_for}

@@ -26,7 +26,7 @@ use Rattle.trial_model.specs.declared.outcome.ServerEnd.{ServerEnd}
 use Rattle.trial_model.specs.declared.outcome.ServerEnd.TheVariants as Server
 use Rattle.trial_model.specs.Frames.{Frame}
 use Rattle.trial_server.specs.Serving.{IsAdmitted, IsRefused}
-use Rattle.trial_wire.specs.Hearing.{Gives, HasTaken, Hears, IsOver, Stands, as_frames, device_in, device_of, frame_by, imei_said, items_in, rest_in}
+use Rattle.trial_wire.specs.Hearing.{Gives, HasTaken, Hears, IsOver, Stands, answers, as_frames, device_in, device_of, frame_by, imei_said, items_in, rest_in}
 use Rattle.trial_wire.specs.Hearing as hearing
 use Rattle.trial_wire.specs.Steps.{Greets, Stores}
 use Rattle.trial_wire.specs.Steps as steps
@@ -91,9 +91,14 @@ module _ (known : ℕ → Bool) (bytes piece : List ℕ) (n : ℕ) (old mid : Se
     wrote = [];
     writes = sym (append-nil down);
     taken = tt;
-    stands = λ before start hears. hearing.broken found (fault-now (pushed-as old.reader mid.reader piece n h.decided (broken found.kind found.place) h.says h.pushed)) refl;
+    stands = λ before start hears.
+        hearing.broken found (fault-now (pushed-as old.reader mid.reader piece n h.decided (broken found.kind found.place) h.says h.pushed))
+        (hears.down_is ∙ ap (λ is. answers (known (device_in is)) is) (sym (same-now (pushed-as old.reader mid.reader piece n h.decided (broken found.kind found.place) h.says h.pushed)))) refl;
   }
     where
+      same-now : Pushed up_rows lent_up old.reader mid.reader piece n (broken found.kind found.place) → items_in (bytes ++ take n piece) ≡ items_in bytes
+      same-now p = items-pushed bytes piece n old mid has (broken found.kind found.place) p ∙ append-nil (items_in bytes)
+
       fault-now : Pushed up_rows lent_up old.reader mid.reader piece n (broken found.kind found.place)
           → judge (next_rows (up_rows false) (up_rows true) (items_in (bytes ++ take n piece))) 0 (rest_in (bytes ++ take n piece)) ≡ fault found.kind found.place
       fault-now p =

@@ -208,7 +208,7 @@ module _ (bodies : List (List ℕ)) (are : AreSentBodies bodies) (c : Connection
           long = long;
           at = ends-at long at;
         }
-    over-ended end (hearing.broken found judged end_is) server memory =
+    over-ended end (hearing.broken found judged answered end_is) server memory =
         absurd (none-broken c.imei bodies are digits c.up_given in-stream found.kind found.place
         (subst (λ u. judge (next_rows (up_rows false) (up_rows true) (items_in (take c.up_given u))) 0 (rest_in (take c.up_given u)) ≡ fault found.kind found.place) up_is judged))
     over-ended end (hearing.starved end_is) server memory = absurd (memory end_is)

@@ -78,8 +78,9 @@ pub data IsOver (known : ℕ → Bool) (old : List (Item UpValue)) (start : Shel
   failed : (faults : ℕ) (i : Item UpValue) (front : List (Item UpValue)) (last : Item UpValue) (news : List (Item UpValue)) → items_in bytes ≡ (i ∷ front) ++ last ∷ [] → i ∷ front ≡ old ++ news
       → known (device_in (items_in bytes)) ≡ true → length bytes ≡ place_after 0 (items_in bytes) → 1 ≤ length (frame_by last.end last.value)
       → down ≡ answers true (i ∷ front) → Serves (device_in (items_in bytes)) true (as_frames (news ++ last ∷ [])) start shelf → end ≡ Server.MediumFault faults → IsOver known old start bytes down shelf end
-  -- no item can begin with these bytes
-  broken : (found : Fault) → judge (next_rows (up_rows false) (up_rows true) (items_in bytes)) 0 (rest_in bytes) ≡ fault found.kind found.place → end ≡ Server.Broken found → IsOver known old start bytes down shelf end
+  -- no item can begin with the bytes after items that were all answered
+  broken : (found : Fault) → judge (next_rows (up_rows false) (up_rows true) (items_in bytes)) 0 (rest_in bytes) ≡ fault found.kind found.place
+      → down ≡ answers (known (device_in (items_in bytes))) (items_in bytes) → end ≡ Server.Broken found → IsOver known old start bytes down shelf end
   -- a growth of memory was refused, and the trial ends with no outcome
   starved : end ≡ Server.NoMemory → IsOver known old start bytes down shelf end
 

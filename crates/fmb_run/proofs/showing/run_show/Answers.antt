@@ -1,6 +1,6 @@
 use Rattle.std.proofs.Common.{◌≡◌, true, false, sym, ap, ◌∙◌}
 use Rattle.text_streams.specs.Writes.{Prints, PrintsFront, PrintsWhole}
-use Rattle.fmb_run.specs.Printed.{and_no_memory}
+use Rattle.fmb_io.specs.Printed.{and_no_memory}
 use Rattle.fmb_run.proofs.ReadLemmas.{ended_at, fronts_of_whole, no_front, of_told, of_whole}
 use Rattle.fmb_run.proofs.showing.run_show.Goals as goal
 

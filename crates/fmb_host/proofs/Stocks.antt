@@ -1,0 +1,148 @@
+-- Things that are handed out and come back, one after the other.
+use Rattle.std.proofs.Common.{◌≡◌, ◌<◌, ◌+◌, ℕ, zero, suc, List, [], ◌∷◌, ◌++◌, length, map, Option, None, Some, refl, sym, ap, subst, ◌∙◌, arith, append_assoc, append-nil, length-append}
+use Rattle.doors.specs.MemoryDoors.{MemoryDoorState}
+use Rattle.text_streams.specs.Memory.{MemorySourceView, source_state}
+use Rattle.fmb_host.specs.Host.{TakesBack, TakesBackDoor, counted_once}
+use Rattle.fmb_host.specs.Memory.{MemoryHostView, QueueView, after_return, gate_state, host_view, return_to, returns_of, stock_of}
+use Rattle.fmb_host.specs.Stocks.{ComesBack, ComesFrom, GainsLast, Lends, LendsNew, LosesFirst, LosesFront, Passes, Regains, Returns, Stock, lends_one}
+
+module _ {T : Type 0} where
+  -- nothing was handed out, and nothing came back
+  front_none : (told : Option (List T)) → LosesFront told [] told
+  front_none None = refl
+  front_none (Some items) = refl
+
+  last_none : (told : Option (Returns T)) → GainsLast told [] 0 told
+  last_none None = refl
+  last_none (Some r) = (sym (append-nil r.back), refl)
+
+  pub passes_none : (stock : Stock T) → Passes [] [] stock stock
+  passes_none stock = record { coming = front_none stock.coming; returns = last_none stock.returns }
+
+  front_then : (given more : List T) (a b c : Option (List T)) → LosesFront a given b → LosesFront b more c → LosesFront a (given ++ more) c
+  front_then given more None None c first next = next
+  front_then given more None (Some y) c first next = absurd (let never : Some y ≡ None = first in cc)
+  front_then given more (Some x) None c first next = absurd first
+  front_then given more (Some x) (Some y) None first next = absurd next
+  front_then given more (Some x) (Some y) (Some z) first next = first ∙ (ap (λ l. given ++ l) next ∙ sym (append_assoc given more z))
+
+  last_then : (back later : List T) (n m : ℕ) (a b c : Option (Returns T)) → GainsLast a back n b → GainsLast b later m c → GainsLast a (back ++ later) (n + m) c
+  last_then back later n m None None c first next = next
+  last_then back later n m None (Some y) c first next = absurd (let never : Some y ≡ None = first in cc)
+  last_then back later n m (Some x) None c first next = absurd first
+  last_then back later n m (Some x) (Some y) None first next = absurd next
+  last_then back later n m (Some x) (Some y) (Some z) first next = (
+    next.0 ∙ (ap (λ l. l ++ later) first.0 ∙ append_assoc x.back back later),
+    omega (arith, first.1, next.1, length-append back later),
+  )
+
+  -- what passes one after the other
+  pub passes_then : (given more back later : List T) (a b c : Stock T) → Passes given back a b → Passes more later b c → Passes (given ++ more) (back ++ later) a c
+  passes_then given more back later a b c first next = record {
+    coming = front_then given more a.coming b.coming c.coming first.coming next.coming;
+    returns = subst (λ (n : ℕ). GainsLast a.returns (back ++ later) n c.returns) (sym (length-append given more)) (last_then back later (length given) (length more) a.returns b.returns c.returns first.returns next.returns);
+  }
+
+  front_one : (item : T) (a b : Option (List T)) → LosesFirst a item b → LosesFront a (item ∷ []) b
+  front_one item None b first = first
+  front_one item (Some x) None first = absurd first
+  front_one item (Some x) (Some y) first = first
+
+  lent_one : (a b : Option (Returns T)) → b ≡ lends_one a → GainsLast a [] 1 b
+  lent_one None b is = is
+  lent_one (Some r) None is = absurd (let never : None ≡ Some _ = is in cc)
+  lent_one (Some r) (Some s) is = subst (GainsLast (Some r) [] 1) (sym is) (sym (append-nil r.back), omega arith)
+
+  -- one more was handed out
+  pub passes_lent : (given back : List T) (item : T) (a b c : Stock T) → Passes given back a b → Lends b item c → Passes (given ++ item ∷ []) back a c
+  passes_lent given back item a b c first next = subst (λ (l : List T). Passes (given ++ item ∷ []) l a c) (append-nil back) (passes_then given (item ∷ []) back [] a b c first
+      (record { coming = front_one item b.coming c.coming next.first; returns = lent_one b.returns c.returns next.returns }))
+
+  -- one came back of those that are out
+  from_out : (item : T) (n : ℕ) (lent : List T) (c : Option (Returns T)) → 0 < n → ComesFrom n lent item c → GainsLast (Some (record { back = lent; lent = n })) (item ∷ []) 0 c
+  from_out item zero lent c out last = absurd (omega (arith, out))
+  from_out item (suc n) lent c out last = subst (GainsLast (Some (record { back = lent; lent = suc n })) (item ∷ []) 0) (sym last) (refl, omega arith)
+
+  back_one : (item : T) (given back : List T) (a b c : Option (Returns T)) → GainsLast a back (length given) b → length back < length given → ComesBack b item c → GainsLast a (back ++ item ∷ []) (length given) c
+  back_one item given back None None c first out last = last
+  back_one item given back None (Some y) c first out last = absurd (let never : Some y ≡ None = first in cc)
+  back_one item given back (Some x) None c first out last = absurd first
+  back_one item given back (Some x) (Some y) c first out last =
+      let more = last_then back (item ∷ []) (length given) 0 (Some x) (Some y) c first (from_out item y.lent y.back c (omega (arith, first.1, out)) last) in
+      subst (λ (n : ℕ). GainsLast (Some x) (back ++ item ∷ []) n c) (let same : length given + 0 ≡ length given = omega arith in same) more
+
+  front_more : (given : List T) (a b c : Option (List T)) → c ≡ b → LosesFront a given b → LosesFront a given c
+  front_more given a b c same first = subst (LosesFront a given) (sym same) first
+
+  pub passes_back : (given back : List T) (item : T) (a b c : Stock T) → Passes given back a b → length back < length given → Regains b item c → Passes given (back ++ item ∷ []) a c
+  passes_back given back item a b c first out next = record {
+    coming = front_more given a.coming b.coming c.coming next.coming first.coming;
+    returns = back_one item given back a.returns b.returns c.returns first.returns out next.last;
+  }
+
+  -- one was handed out and came back
+  pub passes_one : (item last : T) (a b c : Stock T) → Lends a item b → Regains b last c → Passes (item ∷ []) (last ∷ []) a c
+  passes_one item last a b c lent regained = passes_back (item ∷ []) [] last a b c (passes_lent [] [] item a a b (passes_none a) lent) (omega arith) regained
+
+  -- what passed stays so where nothing more changes
+  pub passes_along : (given back : List T) (a b c : Stock T) → Passes given back a b → c ≡ b → Passes given back a c
+  passes_along given back a b c first same = subst (Passes given back a) (sym same) first
+
+-- what a host in memory does with its queues is told so
+module _ {S T : Type 0} (see : S → T) where
+  pub queue_lends : (old new : QueueView S) (item : S) → old.coming ≡ item ∷ new.coming → new ≡ record old { coming = new.coming; lent = suc old.lent } → Lends (stock_of see old) (see item) (stock_of see new)
+  queue_lends old new item first is = record {
+    first = ap (map see) first;
+    returns = ap (λ (q : QueueView S). returns_of see q.back q.lent) is ∙ lent_more old.back old.lent;
+  }
+    where
+      lent_more : (back : Option (List S)) (lent : ℕ) → returns_of see back (suc lent) ≡ lends_one (returns_of see back lent)
+      lent_more None lent = refl
+      lent_more (Some items) lent = refl
+
+  pub queue_lends_new : (old new : QueueView S) → new ≡ record old { lent = suc old.lent } → LendsNew (stock_of see old) (stock_of see new)
+  queue_lends_new old new is = record {
+    coming = ap (λ (q : QueueView S). Some (map see q.coming)) is;
+    returns = ap (λ (q : QueueView S). returns_of see q.back q.lent) is ∙ lent_more old.back old.lent;
+  }
+    where
+      lent_more : (back : Option (List S)) (lent : ℕ) → returns_of see back (suc lent) ≡ lends_one (returns_of see back lent)
+      lent_more None lent = refl
+      lent_more (Some items) lent = refl
+
+  pub queue_regains : (old new : QueueView S) (item : S) → new ≡ after_return item old → Regains (stock_of see old) (see item) (stock_of see new)
+  queue_regains old new item is = subst (λ (q : QueueView S). Regains (stock_of see old) (see item) (stock_of see q)) (sym is) (regained old.lent)
+    where
+      regained : (n : ℕ) → Regains (record { coming = Some (map see old.coming); returns = returns_of see old.back n }) (see item) (stock_of see (return_to n item (record old { lent = n })))
+      regained n = record { last = last_of n old.back; coming = coming_of n }
+        where
+          last_of : (n : ℕ) (back : Option (List S)) → ComesBack (returns_of see back n) (see item) (stock_of see (return_to n item (record old { back = back; lent = n }))).returns
+          last_of zero None = refl
+          last_of zero (Some items) = tt
+          last_of (suc n) None = refl
+          last_of (suc n) (Some items) = ap (λ l. Some (let r : Returns T = record { back = l; lent = n } in r)) (mapped items)
+            where
+              mapped : (items : List S) → map see (items ++ item ∷ []) ≡ map see items ++ see item ∷ []
+              mapped [] = refl
+              mapped (x ∷ xs) = ap (λ l. see x ∷ l) (mapped xs)
+
+          coming_of : (n : ℕ) → (stock_of see (return_to n item (record old { lent = n }))).coming ≡ Some (map see old.coming)
+          coming_of zero = refl
+          coming_of (suc n) = refl
+
+-- a text or a door that came back was counted, and then kept
+pub takes_text : (before counted : MemoryHostView) (texts : QueueView MemorySourceView) (text : MemorySourceView) (faults : ℕ) → faults ≡ text.faults
+    → counted ≡ record before { counts = record before.counts { texts = counted_once before.counts.texts faults } } → texts ≡ after_return text counted.texts
+    → TakesBack (host_view before) (source_state text) (host_view (record counted { texts = texts }))
+takes_text before counted texts text faults same is back = record {
+  texts = queue_regains source_state before.texts texts text (back ∙ ap (λ (h : MemoryHostView). after_return text h.texts) is);
+  others = ap (λ (h : MemoryHostView). host_view (record h { texts = texts })) (is ∙ ap (λ (n : ℕ). record before { counts = record before.counts { texts = counted_once before.counts.texts n } }) same);
+}
+
+pub takes_door : (before counted : MemoryHostView) (gates : QueueView MemoryDoorState) (door : MemoryDoorState) (faults : ℕ) → faults ≡ door.faults
+    → counted ≡ record before { counts = record before.counts { doors = counted_once before.counts.doors faults } } → gates ≡ after_return door counted.gates
+    → TakesBackDoor (host_view before) (gate_state door) (host_view (record counted { gates = gates }))
+takes_door before counted gates door faults same is back = record {
+  gates = queue_regains gate_state before.gates gates door (back ∙ ap (λ (h : MemoryHostView). after_return door h.gates) is);
+  others = ap (λ (h : MemoryHostView). host_view (record h { gates = gates })) (is ∙ ap (λ (n : ℕ). record before { counts = record before.counts { doors = counted_once before.counts.doors n } }) same);
+}

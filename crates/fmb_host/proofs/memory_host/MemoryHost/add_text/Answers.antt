@@ -1,0 +1,6 @@
+use Rattle.std.proofs.Common.{◌≡◌}
+use Rattle.fmb_host.proofs.Fresh.{fresh_added}
+use Rattle.fmb_host.proofs.memory_host.MemoryHost.add_text.Goals as goal
+
+pub invariant_of-self : goal.invariant_of-self
+invariant_of-self c = record { texts = fresh_added (λ text. text.faults ≡ 0) c.add.result _ _ _ c.add.ensures.ok c.add.ensures.err c.self.invariant.texts c.requires; media = c.self.invariant.media; wires = c.self.invariant.wires; gates = c.self.invariant.gates }

@@ -1,0 +1,5 @@
+pub mod Connections
+pub mod Progress
+pub mod Workers
+pub mod Evidence
+pub mod Staff

@@ -1,0 +1,8 @@
+pub mod Answering
+pub mod Bodies
+pub mod Keeping
+pub mod Late
+pub mod NoCommands
+pub mod Rounds
+pub mod Starting
+pub mod Talking
