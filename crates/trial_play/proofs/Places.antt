@@ -81,7 +81,7 @@ pub number-changed : (f : ConnectionHistory → ConnectionHistory) (n : ℕ) (hs
 number-changed f n [] = refl
 number-changed f n (h ∷ hs) = ap (λ rest. if n == 1 then f h ∷ hs else h ∷ rest) (number-changed f (n - 1) hs)
 
--- what stands beside it in a list as long
+-- what is beside it in a list as long
 pub get-beside : {A B : Type 0} (xs : List A) (ys : List B) (n : ℕ) (x : A) → length xs ≡ length ys → slice_get xs n ≡ Some x → (y : B) × (slice_get ys n ≡ Some y)
 get-beside [] ys n x same at = absurd (none-some x at)
 get-beside (z ∷ xs) [] n x same at = absurd (omega (arith, same))

@@ -1,5 +1,5 @@
 -- What the benches hold that are handed back, beside the outcome: each flash its device's records, and the archive each device's records
--- once, as its entries stand.
+-- once, as its entries are.
 use Rattle.std.specs.Prelude.{◌≡◌, List, [], ◌∷◌, map, ℕ}
 use Rattle.std.specs.List.{All, Contains}
 use Rattle.archive_journal.specs.Entries.{entries_of}
