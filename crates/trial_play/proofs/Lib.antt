@@ -9,3 +9,9 @@ pub mod Opening
 pub mod ServerLines
 pub mod Sides
 pub mod Playing
+pub mod Decided
+pub mod Whole
+pub mod Evidence
+pub mod Ending
+pub mod Starting
+pub mod OnMedia

@@ -28,11 +28,8 @@ use Rattle.trial_play.specs.Trials.{AreConnectionsSound, BeginsWith, IsSoundBy, 
 use Rattle.trial_play.proofs.Connections.{begins-itself, begins-more, given-at, given-now, line-sound}
 use Rattle.trial_play.proofs.Given.{given-push, records-push}
 use Rattle.trial_play.proofs.KeptLogs.{earlier-more, logs-append, logs-length, sent-more}
+use Rattle.trial_play.proofs.Places.{both-true}
 use Rattle.trial_play.proofs.Steps.{connections-count, connecting-take}
-
-both-true : (a b : Bool) → (a && b) ≡ true → (a ≡ true) × (b ≡ true)
-both-true true b e = (refl, e)
-both-true false b e = absurd (true≢false (sym e))
 
 not-both : (a b : Bool) → (a && b) ≡ false → b ≡ true → a ≡ false
 not-both true b e on = absurd (true≢false (sym on ∙ e))

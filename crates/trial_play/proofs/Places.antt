@@ -1,5 +1,5 @@
 -- Lists, place by place.
-use Rattle.std.proofs.Common.{◌≡◌, ◌⊎◌, inl, inr, ℕ, zero, suc, ◌-◌, ◌==◌, Bool, true, false, List, [], ◌∷◌, length, map, slice_get, set, Option, Some, None, if◌then◌else◌, refl, sym, ◌∙◌, ap, arith, eq-eqb, eqb-true}
+use Rattle.std.proofs.Common.{◌≡◌, ◌⊎◌, inl, inr, ℕ, zero, suc, ◌-◌, ◌==◌, ◌&&◌, Bool, true, false, List, [], ◌∷◌, length, map, slice_get, set, Option, Some, None, if◌then◌else◌, refl, sym, ◌∙◌, ap, arith, eq-eqb, eqb-true}
 use Rattle.std.proofs.lemmas.Bool.{cases_Bool, true≢false}
 use Rattle.trial_model.specs.Connections.{ConnectionHistory, at_number}
 use Rattle.trial_play.specs.ServerLines.{changed_at}
@@ -12,6 +12,10 @@ none-some a e = cc
 
 pub same-at : {A : Type 0} (xs : List A) (n : ℕ) (a b : A) → slice_get xs n ≡ Some a → slice_get xs n ≡ Some b → a ≡ b
 same-at xs n a b p q = some-same a b (sym p ∙ q)
+
+pub both-true : (a b : Bool) → (a && b) ≡ true → (a ≡ true) × (b ≡ true)
+both-true true b e = (refl, e)
+both-true false b e = absurd (true≢false (sym e))
 
 -- two numbers that aren't equal, the other way round
 pub eqb-flip : (a b : ℕ) → (a == b) ≡ false → (b == a) ≡ false
@@ -76,3 +80,10 @@ changed-set f number (suc n) (y ∷ xs) x is at = split (changed-set f (number -
 pub number-changed : (f : ConnectionHistory → ConnectionHistory) (n : ℕ) (hs : List ConnectionHistory) → at_number f n hs ≡ changed_at f n hs
 number-changed f n [] = refl
 number-changed f n (h ∷ hs) = ap (λ rest. if n == 1 then f h ∷ hs else h ∷ rest) (number-changed f (n - 1) hs)
+
+-- what is beside it in a list as long
+pub get-beside : {A B : Type 0} (xs : List A) (ys : List B) (n : ℕ) (x : A) → length xs ≡ length ys → slice_get xs n ≡ Some x → (y : B) × (slice_get ys n ≡ Some y)
+get-beside [] ys n x same at = absurd (none-some x at)
+get-beside (z ∷ xs) [] n x same at = absurd (omega (arith, same))
+get-beside (z ∷ xs) (y ∷ ys) zero x same at = (y, refl)
+get-beside (z ∷ xs) (y ∷ ys) (suc n) x same at = get-beside xs ys n x (omega (arith, same)) at

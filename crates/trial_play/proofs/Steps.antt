@@ -64,20 +64,20 @@ connecting-take (suc i) (l ∷ lines) = omega (arith, connecting-take i lines)
 
 -- Steps.
 
-abbrev opens : ScriptLine → Bool
+abbrev pub opens : ScriptLine → Bool
 opens l = is_some (opening_of l)
 
-abbrev bare : ScriptLine → Step
+abbrev pub bare : ScriptLine → Step
 bare l = record { line = l; end = None }
 
-abbrev ended : ScriptLine → DeviceEnd → Step
+abbrev pub ended : ScriptLine → DeviceEnd → Step
 ended l e = record { line = l; end = Some e }
 
-step-none : (l : ScriptLine) (lines : List ScriptLine) (ends : List DeviceEnd) → opens l ≡ false → steps_of (l ∷ lines) ends ≡ bare l ∷ steps_of lines ends
+pub step-none : (l : ScriptLine) (lines : List ScriptLine) (ends : List DeviceEnd) → opens l ≡ false → steps_of (l ∷ lines) ends ≡ bare l ∷ steps_of lines ends
 step-none l lines [] no_end = refl
 step-none l lines (e ∷ ends) no_end = ap (λ b. if b then ended l e ∷ steps_of lines ends else bare l ∷ steps_of lines (e ∷ ends)) no_end
 
-step-some : (l : ScriptLine) (lines : List ScriptLine) (e : DeviceEnd) (ends : List DeviceEnd) → opens l ≡ true → steps_of (l ∷ lines) (e ∷ ends) ≡ ended l e ∷ steps_of lines ends
+pub step-some : (l : ScriptLine) (lines : List ScriptLine) (e : DeviceEnd) (ends : List DeviceEnd) → opens l ≡ true → steps_of (l ∷ lines) (e ∷ ends) ≡ ended l e ∷ steps_of lines ends
 step-some l lines e ends has_end = ap (λ b. if b then ended l e ∷ steps_of lines ends else bare l ∷ steps_of lines (e ∷ ends)) has_end
 
 connect-none : (l : ScriptLine) (lines : List ScriptLine) → opens l ≡ false → connecting (l ∷ lines) ≡ connecting lines

@@ -1,5 +1,5 @@
 -- What the benches hold that are handed back, beside the outcome: each flash its device's records, and the archive each device's records
--- once, as its entries stand.
+-- once, as its entries are.
 use Rattle.std.specs.Prelude.{◌≡◌, List, [], ◌∷◌, map, ℕ}
 use Rattle.std.specs.List.{All, Contains}
 use Rattle.archive_journal.specs.Entries.{entries_of}
@@ -12,11 +12,16 @@ use Rattle.trial_model.specs.Kept.{EachDevice}
 use Rattle.trial_model.specs.RecordLists.{first_places}
 use Rattle.trial_model.specs.Results.{Results}
 use Rattle.trial_model.specs.Script.{Device, Script, devices_of, lines_of}
+use Rattle.trial_device.specs.Sides.{Side}
+use Rattle.trial_play.specs.Trials.{TrialState}
 
 -- The benches as they are handed back, the devices' in the script's order.
 pub record BenchStates : Type 0 where
   pub server : MediumState
   pub devices : List MediumState
+
+abbrev pub benches_of : TrialState → BenchStates
+benches_of t = record { server = t.shelf.medium; devices = map (λ (d : Side). d.ring.medium) t.sides }
 
 -- a device's flash, beside its outcome
 pub record HasFlash (slots : ℕ) (flash : MediumState) (d : DeviceOutcome) : Type 0 where

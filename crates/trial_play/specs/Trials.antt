@@ -72,7 +72,8 @@ pub record BeginsWith (front lines : List ScriptLine) : Type 0 where
 abbrev pub IsSoundBy : List Device → List ScriptLine → List ConnectionOutcome → ℕ → ConnectionHistory → Connection → Type 0
 IsSoundBy devices lines logs n h w = IsConnectionSound lines logs (known_by devices h) (cover_by h) (earlier_by devices logs h) n h w
 
--- There is one connection for each history, in order, and each is sound by it; before the one at place n at most n lines connect.
+-- There is one connection for each history, in order, and each is sound by it. The lines begin with those before a connection's own line,
+-- of which at most as many connect as its place.
 pub record AreConnectionsSound (devices : List Device) (lines : List ScriptLine) (histories : List ConnectionHistory) (connections : List Connection) : Type 0 where
   pub as_many : length connections ≡ length histories
   pub places : (n : ℕ) (h : ConnectionHistory) → slice_get histories n ≡ Some h → connecting h.before ≤ n
