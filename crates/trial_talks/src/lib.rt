@@ -4,4 +4,4 @@
 
 mod connecting;
 
-pub use connecting::{Carried, ConnectionLine};
+pub use connecting::{Carried, carry};
