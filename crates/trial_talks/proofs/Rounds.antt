@@ -19,7 +19,6 @@ use Rattle.tracker_session.specs.WholeRounds.{IsWholeRound, TalksWhere}
 use Rattle.tracker_session.specs.Responses.{ShellMeaning}
 use Rattle.tracker_session.specs.RoundStates.{Round, RoundState, starts}
 use Rattle.tracker_session.specs.Rounds.{Ends, IsRound, cut, empty, talked}
-use Rattle.tracker_session.specs.Turns.{BreaksWith}
 use Rattle.tracker_session.proofs.Exports.{right_answers_end_right}
 use Rattle.tracker_session.specs.declared.round_end.RoundEnd.{RoundEnd}
 use Rattle.tracker_session.specs.declared.round_end.RoundEnd.TheVariants as end

@@ -4,4 +4,4 @@
 
 mod connecting;
 
-pub use connecting::{Carried, carry};
+pub use connecting::{Carried, ConnectionLine, connect};
