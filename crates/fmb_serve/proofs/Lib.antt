@@ -1,0 +1,4 @@
+mod Counting
+mod Doors
+mod Loops
+mod Ran
