@@ -1,9 +1,8 @@
 -- What a trial and a drive need of a script's numbers: a device has 1 to 4,096 slots, and values without a fault fit their settings.
-use Rattle.std.proofs.Common.{◌≡◌, ◌==◌, ◌+◌, ◌<◌, ◌≤◌, ℕ, Bool, true, false, nat_lt, not, lit<, List, [], ◌∷◌, ◌++◌, length, Option, Some, None, Result, Ok, Err, refl, sym, ap, subst, ◌∙◌, append_assoc, arith, if◌then◌else◌}
-use Rattle.std.specs.Prelude.{nat_le}
+use Rattle.std.proofs.Common.{◌≡◌, ◌==◌, ◌<◌, ◌≤◌, ℕ, Bool, true, false, nat_lt, not, lit<, List, [], ◌∷◌, ◌++◌, length, Option, Some, None, Result, Ok, Err, refl, sym, subst, arith, if◌then◌else◌}
 use Rattle.std.specs.List.{AllByRecursion, filter_map, fold}
 use Rattle.std.proofs.lemmas.Bool.Decides.{nat_tests}
-use Rattle.std.proofs.lemmas.List.{append-nil, map_push}
+use Rattle.std.proofs.lemmas.List.{map_push}
 use Rattle.acquisition.specs.Elements.{ValuesFit, width_of}
 use Rattle.avl_values.specs.Width.{limit}
 use Rattle.io_operands.specs.declared.setting.IoSetting.{IoSetting}
@@ -16,7 +15,7 @@ use Rattle.journey_script.specs.declared.fault.ScriptFault.TheVariants.{BadNumbe
 use Rattle.journey_script.specs.declared.word.LineWord.{LineWord}
 use Rattle.journey_script.specs.Grammar.{IsScript, Refusal, with_judged, with_line, with_text_line}
 use Rattle.journey_script.specs.Later.{◌then◌, all_fit, later_fault, values_fault, when}
-use Rattle.journey_script.specs.Lines.{◌>>=◌, Makes, counted_line, first_of, fields_of, fields_after, fix_with, line_by, line_of, read_fields, read_values, rest_of, setting_with, worded_line}
+use Rattle.journey_script.specs.Lines.{◌>>=◌, Makes, first_of, fields_of, fields_after, fix_with, line_by, line_of, read_fields, read_values, rest_of, setting_with, worded_line}
 use Rattle.journey_script.specs.Numbers.{number_within}
 use Rattle.journey_script.specs.Table.{FieldKind, NumberField, Said, found_or, is_count_of, kinds_of, read_field}
 use Rattle.journey_script.specs.Words.{line_word}
