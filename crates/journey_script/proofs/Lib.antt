@@ -9,6 +9,7 @@ pub mod MadeLaws
 pub mod ReadingLemmas
 pub mod ScriptLaws
 pub mod SettingLaws
+pub mod SlotLaws
 pub mod StandingLemmas
 pub mod Values
 pub mod WritingLemmas
