@@ -1,10 +1,9 @@
 -- How many doors are counted that came back.
-use Rattle.std.proofs.Common.{◌≡◌, ◌<◌, ◌≤◌, ◌+◌, ◌++◌, ℕ, zero, suc, Bool, true, false, List, [], ◌∷◌, length, refl, sym, ap, subst, ◌∙◌, arith, inl, inr}
+use Rattle.std.proofs.Common.{◌≡◌, ◌<◌, ◌≤◌, ◌+◌, ◌++◌, ℕ, zero, suc, true, false, List, [], ◌∷◌, length, refl, ap, subst, ◌∙◌, arith, inl, inr}
 use Rattle.std.specs.Prelude.{◌⊎◌}
 use Rattle.avl_values.specs.Causes.{Rose}
 use Rattle.doors.specs.Doors.{DoorState}
 use Rattle.links.specs.Links.{LinkState}
-use Rattle.server_loop.specs.Connections.{IsReport}
 use Rattle.server_loop.specs.Workers.{AreReports}
 use Rattle.server_loop.specs.declared.report.WorkerReport.{WorkerReport}
 use Rattle.fmb_host.specs.Host.{counted_once}

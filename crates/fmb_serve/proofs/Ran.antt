@@ -1,5 +1,5 @@
 -- What serving comes to, from its steps.
-use Rattle.std.proofs.Common.{◌≡◌, ◌<◌, ◌≤◌, ◌+◌, ◌==◌, ◌^◌, if◌then◌else◌, ℕ, zero, suc, Bool, true, false, List, [], ◌∷◌, ◌++◌, Option, None, Some, length, map, codes, refl, sym, ap, subst, ◌∙◌, arith, inl, inr}
+use Rattle.std.proofs.Common.{◌≡◌, ◌<◌, ◌≤◌, ◌+◌, ◌==◌, if◌then◌else◌, ℕ, zero, suc, Bool, true, false, List, [], ◌∷◌, Option, None, Some, length, map, codes, refl, sym, ap, subst, ◌∙◌, arith, inl, inr}
 use Rattle.std.specs.Prelude.{◌⊎◌}
 use Rattle.std.proofs.lemmas.Bool.{ne_eqb}
 use Rattle.std.proofs.lemmas.List.{length-map}
@@ -24,14 +24,14 @@ use Rattle.fmb_host.specs.declared.host.Counts.{Counts}
 use Rattle.fmb_host.specs.Host.{HandsOutMedium, HostView, TakesBackMedium, counted_once, seen_door, with_host_fault}
 use Rattle.fmb_host.specs.Stocks.{Lends, LosesFront, Passes, Stock}
 use Rattle.fmb_host.proofs.Stocks.{passes_along, passes_none, passes_one}
-use Rattle.fmb_io.specs.Printed.{Prints, SinkFailed}
+use Rattle.fmb_io.specs.Printed.{Prints}
 use Rattle.fmb_io.proofs.Steps.{once_none, once_some}
-use Rattle.fmb_serve.specs.Doors.{HandsOutDoors, OpensNoDoors, TakesBackDoors}
+use Rattle.fmb_serve.specs.Doors.{OpensNoDoors, TakesBackDoors}
 use Rattle.fmb_serve.specs.Lines.{serve_lines}
-use Rattle.fmb_serve.specs.Serve.{HasNextMedium, IsNotArchive, IsUnserved, OfServed, RanServe, SaysWhy, ServeRefuses, ServeServes, Tells, counted_doors}
+use Rattle.fmb_serve.specs.Serve.{IsNotArchive, IsUnserved, OfServed, RanServe, SaysWhy, ServeRefuses, ServeServes, Tells, counted_doors}
 use Rattle.fmb_serve.specs.Statuses.{any_door_failed, any_ran_out, serving_status}
-use Rattle.fmb_serve.specs.Steps.{IsClosed, IsOpened, IsReady, IsTold}
-use Rattle.fmb_serve.proofs.Counting.{counted_new, counted_none, counted_some, risen}
+use Rattle.fmb_serve.specs.Steps.{IsClosed, IsOpened, IsReady}
+use Rattle.fmb_serve.proofs.Counting.{counted_none, counted_some, risen}
 use Rattle.fmb_serve.proofs.Doors.{passes_all}
 
 -- counts, sink, media and doors alone changed

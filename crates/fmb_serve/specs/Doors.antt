@@ -1,8 +1,8 @@
 -- Doors that a host hands out and takes back, one after the other (this project's own).
-use Rattle.std.specs.Prelude.{◌≡◌, ◌+◌, ℕ, List, [], ◌∷◌, length, map}
+use Rattle.std.specs.Prelude.{◌≡◌, ◌+◌, ℕ, List, [], ◌∷◌, map}
 use Rattle.links.specs.Links.{LinkState}
 use Rattle.doors.specs.Doors.{DoorState}
-use Rattle.fmb_host.specs.Host.{HostView, IsNewDoor, counted_once, seen_door}
+use Rattle.fmb_host.specs.Host.{HostView, IsNewDoor, seen_door}
 use Rattle.fmb_host.specs.Stocks.{Passes, Regains, Stock}
 use Rattle.fmb_serve.specs.Serve.{counted_doors}
 

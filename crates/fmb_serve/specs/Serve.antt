@@ -1,5 +1,5 @@
 -- What serving an archive at an address comes to, by its status (this project's own).
-use Rattle.std.specs.Prelude.{◌≡◌, ◌⊎◌, ◌+◌, ◌<◌, ◌≤◌, ℕ, Bool, List, [], ◌∷◌, Option, Some, length, map, codes}
+use Rattle.std.specs.Prelude.{◌≡◌, ◌⊎◌, ◌+◌, ◌<◌, ℕ, Bool, List, [], ◌∷◌, Some, length, map, codes}
 use Rattle.links.specs.Links.{LinkState}
 use Rattle.doors.specs.Doors.{DoorState}
 use Rattle.medium_model.specs.Content.{Content, after_sync}

@@ -1,5 +1,5 @@
 -- How a server comes to its status, step by step (this project's own).
-use Rattle.std.specs.Prelude.{◌≡◌, ◌⊎◌, ◌==◌, if◌then◌else◌, ℕ, List, length, map, codes}
+use Rattle.std.specs.Prelude.{◌≡◌, ◌⊎◌, ◌==◌, if◌then◌else◌, ℕ, List, length, codes}
 use Rattle.doors.specs.Doors.{DoorState}
 use Rattle.links.specs.Links.{LinkState}
 use Rattle.medium_model.specs.State.{MediumState, IfTold}

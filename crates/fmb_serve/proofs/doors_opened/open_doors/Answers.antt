@@ -1,4 +1,4 @@
-use Rattle.std.proofs.Common.{rules, arith, All, ◌≡◌, ◌<◌, ◌^◌, ◌∷◌, [], ◌++◌, sym, ap, subst, map, ◌∙◌}
+use Rattle.std.proofs.Common.{rules, arith, All, ◌≡◌, ◌<◌, ◌^◌, ◌∷◌, [], sym, ap, subst, map, ◌∙◌}
 use Rattle.std.proofs.lemmas.List.{map-append}
 use Rattle.std.proofs.lemmas.List.Elements.{All-push}
 use Rattle.fmb_serve.specs.Doors.{HandsOutDoors}

@@ -1,4 +1,4 @@
-use Rattle.std.proofs.Common.{length, map, sym, ap, subst, ◌∙◌}
+use Rattle.std.proofs.Common.{map, sym, ap, subst, ◌∙◌}
 use Rattle.std.proofs.lemmas.List.{length-map}
 use Rattle.session_core.specs.Knowing.{knows}
 use Rattle.fmb_host.specs.Host.{TakesBackMedium}

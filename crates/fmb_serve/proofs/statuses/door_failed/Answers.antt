@@ -1,4 +1,4 @@
-use Rattle.std.proofs.Common.{◌<◌, ◌+◌, length, sym, ◌∙◌, arith}
+use Rattle.std.proofs.Common.{◌<◌, length, arith}
 use Rattle.fmb_text.proofs.AppendLemmas.{at_drop_got}
 use Rattle.fmb_serve.specs.Statuses.{any_door_failed}
 use Rattle.fmb_serve.proofs.Loops.{none_here, one_here}

@@ -1,0 +1,11 @@
+pub mod Devices
+pub mod Finishing
+pub mod Flashing
+pub mod Halting
+pub mod History
+pub mod Keeping
+pub mod Places
+pub mod Progress
+pub mod Records
+pub mod Rounds
+pub mod Texts
