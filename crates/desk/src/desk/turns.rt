@@ -12,7 +12,7 @@ ghost use Rattle.desk.specs.Steps.{HasTurn};
 ghost use Rattle.desk.specs.Views.{IsAlone, first_view};
 ghost use Rattle.desk.specs.Views.Stage.{Idle};
 
-use super::{Desk, SERVING, Seat, Token};
+use super::{Desk, SERVING, Seat, TICKET, Token};
 use crate::view::Opening;
 use atomic_table::{Refused, Table};
 use avl_values::{Imei, NoMemory};
@@ -23,9 +23,24 @@ use std::marker::Brand;
 use std::snapshot::Snapshot;
 use std::sync::Wait;
 use std::thread;
+use std::time::Duration;
 
 /// How often a seat looks before it sleeps until the turn is passed on.
 const LOOKS: u32 = 50;
+/// How many turns before its own a seat begins to wait for each that is passed on.
+const NEAR: u64 = 3;
+
+// How many microseconds to sleep where this many turns are left, and this many were passed on in a sleep as long as the last: half the
+// time that they will take at that rate.
+fn next_nap(last: u64, left: u64, passed: u64) -> u64 {
+    let rate = 2 * passed.min(64) + 1;
+    (last.min(1000) * left.min(64) / rate).min(1000).max(20)
+}
+
+// The low 32 bits, which is what sleeping goes by.
+fn low_half(word: u64) -> u32 {
+    (word % 2u64.pow(32)) as u32
+}
 
 impl<M: Medium> Desk<M> {
     /// A desk with as many seats as asked, numbered from 0. Without memory the shelf comes back.
@@ -123,22 +138,33 @@ impl<M: Medium> Desk<M> {
     {
         let ticket = self.draw(token);
         let mut looks: u32 = 0;
+        let mut nap = 50;
+        let mut seen = ticket;
         for _ in rt.forever() {
             let serving = self.look(token);
             if serving == ticket {
                 return;
             }
-            if looks < LOOKS {
+            let ahead = ticket.wrapping_sub(serving);
+            if ahead > NEAR {
+                nap = next_nap(nap, ahead - NEAR, serving.wrapping_sub(seen));
+                seen = serving;
+                self.doze(rt, nap);
+            } else if looks < LOOKS {
                 looks += 1;
                 thread::yield_now();
             } else {
-                // The low 32 bits are what sleeping goes by.
-                self.table
-                    .shared
-                    .park(rt, SERVING, (serving % 2u64.pow(32)) as u32);
+                self.table.shared.park(rt, SERVING, low_half(serving));
             }
         }
         unreachable!()
+    }
+
+    // Sleeps for that long, so that a turn that is passed on wakes those who are near it alone. Nobody is woken who sleeps on this word.
+    fn doze<R: Wait>(&self, rt: &R, micros: u64) {
+        let shared = &self.table.shared;
+        let until = Duration::from_micros(micros);
+        shared.park_timeout(rt, TICKET, low_half(shared.peek(TICKET)), until);
     }
 
     /// One seat for both: it keeps what both have seen.
