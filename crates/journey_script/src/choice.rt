@@ -23,6 +23,7 @@ const OPERANDS: [Operand; 6] = [
 
 const TEARS: [Tear; 5] = [Tear::Keep, Tear::New, Tear::Zero, Tear::AllOpen, Tear::Half];
 
+/// The word for a codec: `8`, `8E` or `16`.
 pub fn codec_name(codec: Codec) -> &'static str
     ensures { result.now ≡ codec_name codec }
 {
@@ -33,6 +34,7 @@ pub fn codec_name(codec: Codec) -> &'static str
     }
 }
 
+/// The codec that a word names; None for any other text.
 pub fn codec(text: &[u8]) -> Option<Codec>
     ensures { result ≡ named codec_name codecs text.now }
 {
@@ -42,6 +44,7 @@ pub fn codec(text: &[u8]) -> Option<Codec>
         .find(|codec| codec_name(*codec).as_bytes() == text)
 }
 
+/// The word for an order of sending: `oldest` or `newest`.
 pub fn order_name(order: Order) -> &'static str
     ensures { result.now ≡ order_name order }
 {
@@ -51,6 +54,7 @@ pub fn order_name(order: Order) -> &'static str
     }
 }
 
+/// The order of sending that a word names; None for any other text.
 pub fn order(text: &[u8]) -> Option<Order>
     ensures { result ≡ named order_name orders text.now }
 {
@@ -67,6 +71,7 @@ pub fn flag_name(known: bool) -> &'static str
     if known { "known" } else { "stranger" }
 }
 
+/// Whether the server knows the device: `known` or `stranger`; None for any other text.
 pub fn flag(text: &[u8]) -> Option<bool>
     ensures { result ≡ named flag_name flags text.now }
 {
@@ -76,6 +81,7 @@ pub fn flag(text: &[u8]) -> Option<bool>
         .find(|known| flag_name(*known).as_bytes() == text)
 }
 
+/// The word for an operand of an I/O setting.
 pub fn operand_name(operand: Operand) -> &'static str
     ensures { result.now ≡ operand_name operand }
 {
@@ -89,6 +95,7 @@ pub fn operand_name(operand: Operand) -> &'static str
     }
 }
 
+/// The operand that a word names; None for any other text.
 pub fn operand(text: &[u8]) -> Option<Operand>
     ensures { result ≡ named operand_name operands text.now }
 {
@@ -98,6 +105,7 @@ pub fn operand(text: &[u8]) -> Option<Operand>
         .find(|operand| operand_name(*operand).as_bytes() == text)
 }
 
+/// The word for what a power loss leaves of a write.
 pub fn tear_name(tear: Tear) -> &'static str
     ensures { result.now ≡ tear_name tear }
 {
@@ -110,6 +118,7 @@ pub fn tear_name(tear: Tear) -> &'static str
     }
 }
 
+/// The tear that a word names; None for any other text.
 pub fn tear(text: &[u8]) -> Option<Tear>
     ensures { result ≡ named tear_name tears text.now }
 {

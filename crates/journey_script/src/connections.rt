@@ -21,6 +21,7 @@ pub struct Connections {
 }
 
 impl Connections {
+    /// No connection yet, and no fuse that waits.
     pub fn new() -> Connections
         ensures count { result.count ≡ 0 }
         ensures half_open { result.half_open.items ≡ [] }

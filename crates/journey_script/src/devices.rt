@@ -23,6 +23,7 @@ pub struct DeviceState {
     pub closed: bool,
 }
 
+/// The devices of the lines so far, by their IMEI's number.
 pub type Devices = BTreeMap<u64, DeviceState>;
 
 /// The most devices of a script (this project's own).

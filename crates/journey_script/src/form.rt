@@ -10,6 +10,7 @@ use crate::field;
 use crate::fields::Fields;
 use io_operands::IoSetting;
 
+/// A `device` line: the first of its fields that is wrong is the fault.
 #[tactic(auto, unfolding(crate::specs::Lines::line_by))]
 pub fn device_line(mut fields: Fields<'_>) -> Result<CompactLine, ScriptFault>
     ensures { says result ≡ line_by LineWord.Device fields.entry }
@@ -36,6 +37,7 @@ pub fn device_line(mut fields: Fields<'_>) -> Result<CompactLine, ScriptFault>
     })
 }
 
+/// An `io` line: the first of its fields that is wrong is the fault.
 #[tactic(auto, unfolding(crate::specs::Lines::line_by))]
 pub fn setting_line(mut fields: Fields<'_>) -> Result<CompactLine, ScriptFault>
     ensures { says result ≡ line_by LineWord.Io fields.entry }
@@ -58,6 +60,7 @@ pub fn setting_line(mut fields: Fields<'_>) -> Result<CompactLine, ScriptFault>
     Ok(CompactLine::Setting { imei, setting })
 }
 
+/// A `round` line: the first of its fields that is wrong is the fault.
 #[tactic(auto, unfolding(crate::specs::Lines::line_by))]
 pub fn round_line(mut fields: Fields<'_>) -> Result<CompactLine, ScriptFault>
     ensures { says result ≡ line_by LineWord.Round fields.entry }
@@ -74,6 +77,7 @@ pub fn round_line(mut fields: Fields<'_>) -> Result<CompactLine, ScriptFault>
     })
 }
 
+/// A `drain` line: the first of its fields that is wrong is the fault.
 #[tactic(auto, unfolding(crate::specs::Lines::line_by))]
 pub fn drain_line(mut fields: Fields<'_>) -> Result<CompactLine, ScriptFault>
     ensures { says result ≡ line_by LineWord.Drain fields.entry }
@@ -86,6 +90,7 @@ pub fn drain_line(mut fields: Fields<'_>) -> Result<CompactLine, ScriptFault>
     })
 }
 
+/// A `late` line: the first of its fields that is wrong is the fault.
 #[tactic(auto, unfolding(crate::specs::Lines::line_by))]
 pub fn late_line(mut fields: Fields<'_>) -> Result<CompactLine, ScriptFault>
     ensures { says result ≡ line_by LineWord.Late fields.entry }
@@ -98,6 +103,7 @@ pub fn late_line(mut fields: Fields<'_>) -> Result<CompactLine, ScriptFault>
     })
 }
 
+/// A `close` line: its field is wrong, or the line says which connection is closed.
 #[tactic(auto, unfolding(crate::specs::Lines::line_by))]
 pub fn close_line(mut fields: Fields<'_>) -> Result<CompactLine, ScriptFault>
     ensures { says result ≡ line_by LineWord.Close fields.entry }
@@ -108,6 +114,7 @@ pub fn close_line(mut fields: Fields<'_>) -> Result<CompactLine, ScriptFault>
     })
 }
 
+/// A `power` line: its field is wrong, or the line says whose power is lost.
 #[tactic(auto, unfolding(crate::specs::Lines::line_by))]
 pub fn power_line(mut fields: Fields<'_>) -> Result<CompactLine, ScriptFault>
     ensures { says result ≡ line_by LineWord.Power fields.entry }
@@ -116,6 +123,7 @@ pub fn power_line(mut fields: Fields<'_>) -> Result<CompactLine, ScriptFault>
     Ok(CompactLine::Power { who })
 }
 
+/// A `fuse` line: the first of its fields that is wrong is the fault.
 #[tactic(auto, unfolding(crate::specs::Lines::line_by))]
 pub fn fuse_line(mut fields: Fields<'_>) -> Result<CompactLine, ScriptFault>
     ensures { says result ≡ line_by LineWord.Fuse fields.entry }

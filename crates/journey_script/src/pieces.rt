@@ -7,6 +7,7 @@ use avl_values::NoMemory;
 use itoa::Buffer;
 use trial_model::Who;
 
+/// A piece, put last. NoMemory where a growth was refused.
 pub fn push(text: &mut Vec<u8>, piece: &[u8]) -> Result<(), NoMemory>
     ensures { OnOk result (text.new.items ≡ text.old.items ++ piece.now) }
 {
@@ -22,6 +23,7 @@ pub fn push_field(text: &mut Vec<u8>, field: &[u8]) -> Result<(), NoMemory>
     push(text, field)
 }
 
+/// A space, and a number in decimal digits.
 pub fn push_number(text: &mut Vec<u8>, number: u64) -> Result<(), NoMemory>
     ensures { OnOk result (text.new.items ≡ text.old.items ++ (32 ∷ decimal number)) }
 {
@@ -29,6 +31,7 @@ pub fn push_number(text: &mut Vec<u8>, number: u64) -> Result<(), NoMemory>
     push_field(text, digits.format(number).as_bytes())
 }
 
+/// A space, and a number in decimal digits, after a `-` where it is below 0.
 pub fn push_signed(text: &mut Vec<u8>, number: i32) -> Result<(), NoMemory>
     ensures { OnOk result (text.new.items ≡ text.old.items ++ (32 ∷ signed_decimal number)) }
 {
@@ -36,6 +39,7 @@ pub fn push_signed(text: &mut Vec<u8>, number: i32) -> Result<(), NoMemory>
     push_field(text, digits.format(number).as_bytes())
 }
 
+/// A space, and a number of bytes, or `-` for no limit.
 pub fn push_limit(text: &mut Vec<u8>, limit: Option<u32>) -> Result<(), NoMemory>
     ensures { OnOk result (text.new.items ≡ text.old.items ++ (32 ∷ spell_limit limit)) }
 {
@@ -45,6 +49,7 @@ pub fn push_limit(text: &mut Vec<u8>, limit: Option<u32>) -> Result<(), NoMemory
     }
 }
 
+/// A space, and a device's 15 digits, or `server`.
 pub fn push_whose(text: &mut Vec<u8>, who: Who) -> Result<(), NoMemory>
     ensures { OnOk result (text.new.items ≡ text.old.items ++ (32 ∷ spell_whose who)) }
 {

@@ -38,6 +38,7 @@ impl Model for Journey {
 impl Journey {
     ghost use Rattle.made_script.specs.Standing.{HasRoom};
 
+    /// A journey's start: this many parked vehicles, at 1,560,000,000,000 ms. NoMemory makes nothing.
     pub fn new(alloc: Global, devices: u32) -> Result<Journey, NoMemory>
         ensures { IfOk result (λ journey. journey ≡ started devices) }
     {
@@ -52,6 +53,7 @@ impl Journey {
         })
     }
 
+    /// How many `round` lines the turns so far have.
     pub fn rounds(&self) -> u32
         ensures { result ≡ self.now.rounds }
     {

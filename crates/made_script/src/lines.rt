@@ -48,6 +48,7 @@ const VOLTAGE: IoSetting = IoSetting {
     priority: 2,
 };
 
+/// The `device` line of a device, counted from 1, and its two `io` lines. After NoMemory the draft may have some of them.
 pub fn push_device(alloc: Global, draft: &mut ScriptDraft, device: u32) -> Result<(), NoMemory>
     requires { length draft.old < 2 ^ 31 }
     ensures { OnOk result (draft.new ≡ draft.old ++ device_lines device) }
@@ -72,6 +73,7 @@ pub fn push_device(alloc: Global, draft: &mut ScriptDraft, device: u32) -> Resul
     Ok(())
 }
 
+/// Two `drain` lines of a device, counted from 1. After NoMemory the draft may have one of them.
 pub fn push_drains(alloc: Global, draft: &mut ScriptDraft, device: u32) -> Result<(), NoMemory>
     requires { length draft.old < 2 ^ 31 }
     ensures { OnOk result (draft.new ≡ draft.old ++ drain_lines device) }

@@ -15,7 +15,7 @@ use Rattle.flash_ring.proofs.HeldRecords.{next_of-least, next_of-put}
 use Rattle.flash_ring.proofs.Rings.{below-closed}
 use Rattle.flash_ring.proofs.Slots.{eqb-not}
 use Rattle.avl_values.specs.declared.order.Order.TheVariants.{Oldest}
-use Rattle.tracker_session.specs.Keeping.{Keeps, KeepsLeft, as_before, without_oldest, with_record}
+use Rattle.tracker_session.specs.Keeping.{IsLeft, Keeps, KeepsLeft, as_before, slots_before, slots_kept, slots_roomy, without_oldest, with_record}
 
 -- a run that failed at its first calls failed, whatever calls were to follow
 less-failed : (n m : ℕ) (l : CallsLeft) → (Passes n l → ⊥) → less n l ≡ less (n + m) l
@@ -79,6 +79,18 @@ left-put v r left below room (changed same) =
     let next : next_of (put_in (with_room v.slots) h) ≤ v.next + 1 = omega (arith, next_of-put (with_room v.slots) h room (next_of-least v.next (with_room v.slots) low)) in
     with_record (ap held_of same ∙ held_of-put (with_room v.slots) h room low) (subst (λ s. next_of s ≤ v.next + 1) (sym same) next)
 
+-- the same, slot by slot
+is-left-room : (v : RingView) (r : Record) (left : List (Option Held)) → IsEither v.slots (with_room v.slots) left → IsLeft v r left
+is-left-room v r left (unchanged same) = slots_before same
+is-left-room v r left (changed same) = elim (full-cases (is_full v.slots)) as (λ _. IsLeft v r left) [
+  | inl full ↦ slots_roomy full same
+  | inr room ↦ slots_before (same ∙ ap (λ b. if b then without_first (entries_of Oldest v.slots) v.slots else v.slots) room)
+]
+
+is-left-put : (v : RingView) (r : Record) (left : List (Option Held)) → IsEither (with_room v.slots) (put_in (with_room v.slots) (record { seq = v.next; rec = r })) left → IsLeft v r left
+is-left-put v r left (unchanged same) = is-left-room v r left (changed same)
+is-left-put v r left (changed same) = slots_kept same
+
 four-calls : (v : RingView) → (v.next ≡ 2 ^ 63 → ⊥) → put_calls v ≡ 4
 four-calls v unspent = ap (λ b. if b then 0 else 4) (eqb-not v.next (2 ^ 63) unspent)
 
@@ -87,6 +99,8 @@ pub keeps-no_room : (v w : RingView) (r : Record) (failed : Type 0) → IsDurabl
     → Counted (room_calls v) v.medium w.medium failed → Keeps r true v w
 keeps-no_room v w r failed durable f is images counted = record {
   size = ap (λ (u : RingView). length u.slots) is;
+  slots = λ no. absurd (false≢true (sym no));
+  leaves = holds-map (length w.slots) w.medium.content (IsEither v.slots (with_room v.slots)) (IsLeft v r) (λ left either. is-left-room v r left either) images;
   images = holds-map (length w.slots) w.medium.content (IsEither v.slots (with_room v.slots)) (KeepsLeft v r) (λ left either. left-room v r left durable.below either) images;
   held = λ no. absurd (false≢true (sym no));
   next = λ no. absurd (false≢true (sym no));
@@ -115,6 +129,11 @@ put-left v u r left durable room either =
     let P : RingView → Type 0 = λ x. IsEither x.slots (put_in x.slots (record { seq = x.next; rec = r })) left in
     left-put v r left durable.below room.room (subst P room.is either)
 
+put-slots : (v u : RingView) (r : Record) (left : List (Option Held)) → HasRoom v u → IsEither u.slots (put_in u.slots (record { seq = u.next; rec = r })) left → IsLeft v r left
+put-slots v u r left room either =
+    let P : RingView → Type 0 = λ x. IsEither x.slots (put_in x.slots (record { seq = x.next; rec = r })) left in
+    is-left-put v r left (subst P room.is either)
+
 -- the record couldn't be put
 pub keeps-not_put : (v u w : RingView) (r : Record) (failed : Type 0) → IsDurable v → (v.next ≡ 2 ^ 63 → ⊥) → HasRoom v u → failed → w ≡ record u { medium = w.medium; down = true }
     → EachHolds w (IsEither u.slots (put_in u.slots (record { seq = u.next; rec = r }))) → Counted (put_calls u) u.medium w.medium failed → Keeps r true v w
@@ -123,6 +142,8 @@ keeps-not_put v u w r failed durable unspent room f is images counted =
     let unspent_there = subst P (sym room.is) unspent in
     record {
       size = ap (λ (x : RingView). length x.slots) is ∙ ap (λ (x : RingView). length x.slots) room.is ∙ length-room v.slots;
+      slots = λ no. absurd (false≢true (sym no));
+      leaves = holds-map (length w.slots) w.medium.content (IsEither u.slots (put_in u.slots (record { seq = u.next; rec = r }))) (IsLeft v r) (λ left either. put-slots v u r left room either) images;
       images = holds-map (length w.slots) w.medium.content (IsEither u.slots (put_in u.slots (record { seq = u.next; rec = r }))) (KeepsLeft v r) (λ left either. put-left v u r left durable room either) images;
       held = λ no. absurd (false≢true (sym no));
       next = λ no. absurd (false≢true (sym no));
@@ -141,6 +162,8 @@ keeps-put v u w r failed durable unspent room passed slots next done images coun
     let stored : w.slots ≡ put_in (with_room v.slots) h = slots ∙ ap (λ (x : RingView). put_in x.slots (record { seq = x.next; rec = r })) room.is in
     record {
       size = ap length stored ∙ length-set (with_room v.slots) _ (Some h) ∙ length-room v.slots;
+      slots = λ _. stored;
+      leaves = holds-map (length w.slots) w.medium.content (IsEither u.slots (put_in u.slots (record { seq = u.next; rec = r }))) (IsLeft v r) (λ left either. put-slots v u r left room either) images;
       images = holds-map (length w.slots) w.medium.content (IsEither u.slots (put_in u.slots (record { seq = u.next; rec = r }))) (KeepsLeft v r) (λ left either. put-left v u r left durable room either) images;
       held = λ _. ap held_of stored ∙ held_of-put (with_room v.slots) h room.room (below-room v.next v.slots durable.below);
       next = λ _. next ∙ ap (λ (x : RingView). x.next + 1) room.is;

@@ -4,7 +4,7 @@ use Rattle.avl_values.specs.Causes.{Rose}
 use Rattle.avl_values.specs.Record.{Record}
 use Rattle.medium_model.specs.State.{Counted}
 use Rattle.flash_ring.specs.Entries.{held_of, with_room}
-use Rattle.flash_ring.specs.Held.{Held, is_full, next_of}
+use Rattle.flash_ring.specs.Held.{Held, is_full, next_of, put_in}
 use Rattle.flash_ring.specs.Ring.{EachHolds, IsDurable, RingView, room_calls}
 use Rattle.tracker_session.specs.Losses.{LossesState, with_loss}
 use Rattle.tracker_session.specs.declared.kept.Kept.{Kept}
@@ -23,14 +23,27 @@ pub data KeepsLeft (v : RingView) (r : Record) (left : List (Option Held)) : Typ
   without_oldest : is_full v.slots ≡ true → held_of left ≡ held_of (with_room v.slots) → next_of left ≤ v.next → KeepsLeft v r left
   with_record : held_of left ≡ held_with v r → next_of left ≤ v.next + 1 → KeepsLeft v r left
 
+-- the slots with a record: in the closed slot with the lowest number, under the next sequence, where a full ring gave up its oldest
+abbrev pub slots_with : RingView → Record → List (Option Held)
+slots_with v r = put_in (with_room v.slots) (record { seq = v.next; rec = r })
+
+-- What a power loss inside it leaves, slot by slot: the slots before, those less the oldest of a full ring, or those with the record.
+pub data IsLeft (v : RingView) (r : Record) (left : List (Option Held)) : Type 0 where
+  slots_before : left ≡ v.slots → IsLeft v r left
+  slots_roomy : is_full v.slots ≡ true → left ≡ with_room v.slots → IsLeft v r left
+  slots_kept : left ≡ slots_with v r → IsLeft v r left
+
 -- the medium calls: two for room in a full ring, and four for the record
 abbrev pub keep_calls : RingView → ℕ
 keep_calls v = room_calls v + 4
 
--- The calls of the medium were made. Where none failed, the ring holds the record; at every exit, and so at each moment of the
--- call, a power loss leaves what `KeepsLeft` says.
+-- The calls of the medium were made. Where none failed, the ring has the record in its slot, and each other slot as before but for
+-- the oldest of a full ring. At every exit, and so at each moment of the call, a power loss leaves what `IsLeft` says, which is
+-- `KeepsLeft` of the records.
 pub record Keeps (r : Record) (failed : Bool) (old new : RingView) : Type 0 where
   pub size : length new.slots ≡ length old.slots
+  pub slots : failed ≡ false → new.slots ≡ slots_with old r
+  pub leaves : EachHolds new (IsLeft old r)
   pub images : EachHolds new (KeepsLeft old r)
   pub held : failed ≡ false → held_of new.slots ≡ held_with old r
   pub next : failed ≡ false → new.next ≡ old.next + 1

@@ -1,4 +1,4 @@
--- What a session reads of what a device sent, and what frames stand there: they are the same.
+-- What a session reads of what a device sent, and what frames are there: they are the same.
 use Rattle.std.proofs.Common.{◌≡◌, ◌≤◌, ◌<◌, inl, inr, ℕ, zero, suc, ◌+◌, ◌^◌, ◌&&◌, nat_le, cond, Bool, true, false, List, [], ◌∷◌, ◌++◌, length, take, drop, refl, sym, ◌∙◌, ap, subst, arith, append_assoc, length-append, take_at, drop_at, length-take-le}
 use Rattle.std.specs.Prelude.{nat_eq}
 use Rattle.std.specs.Int.{to_be_bytes, w16}
