@@ -3,6 +3,7 @@ pub mod Closes
 pub mod Entries
 pub mod Formats
 pub mod HeldRecords
+pub mod Listings
 pub mod Loads
 pub mod Queues
 pub mod Ranks

@@ -6,6 +6,7 @@ mod close;
 mod format;
 mod held;
 mod laws;
+mod listing;
 mod load;
 mod queue;
 mod rank;

@@ -19,12 +19,13 @@ use crate::Order;
 use crate::close::close_slots;
 use crate::format::format;
 use crate::held::Held;
+use crate::listing::list;
 use crate::load::{OpenFault, ReopenFault, load_all, load_anew};
 use crate::queue::{fill, push, take_out};
 use crate::rank::{Found, select};
 use crate::store::store;
 use arrayvec::ArrayVec;
-use avl_values::{Failed, MediumFault, Rec};
+use avl_values::{Failed, MediumFault, NoMemory, Rec, RecList};
 use medium_model::{Bench, Medium, Tear};
 use std::alloc::Global;
 use std::collections::VecDeque;
@@ -329,6 +330,16 @@ impl<M: Medium> Ring<M> {
         ensures durable { self.now.down ≡ false → IsDurable self.now }
     {
         self.queue.len() as u16
+    }
+
+    /// The records that are held, in order of sequence, equal sequences in order of slot. NoMemory changes nothing.
+    #[tactic(auto, using(crate::proofs::Rings::durable_up))]
+    pub fn records(&self, alloc: Global) -> Result<RecList, NoMemory>
+        requires { self.now.down ≡ false }
+        ensures held { IfOk result (λ records. records ≡ held_of self.now.slots) }
+        ensures durable { self.now.down ≡ false → IsDurable self.now }
+    {
+        list(alloc, &self.slots, &self.queue)
     }
 
     /// The record with the least sequence, where every slot is open.

@@ -100,6 +100,13 @@ impl<M: Medium> Tracker<M> {
         ring
     }
 
+    /// The device's IMEI.
+    pub fn imei(&self) -> Imei
+        ensures { result ≡ self.now.imei }
+    {
+        self.imei
+    }
+
     /// Whether a medium fault took the ring down: then `reopen` it, or take it.
     pub fn is_down(&self) -> bool
         ensures value { result ≡ self.now.ring.down }

@@ -140,6 +140,13 @@ impl<B: Bench> DeviceSide<B> {
         })
     }
 
+    /// Its IMEI.
+    pub fn imei(&self) -> Imei
+        ensures { result ≡ self.now.device.imei }
+    {
+        self.tracker.imei()
+    }
+
     /// Sets a fuse for the next line of this device's medium, in place of one that waits (a `fuse` line).
     pub fn arm_fuse(&mut self, calls: u64, tear: Tear)
         ensures { self.new ≡ record self.old { fuse = Some calls } }
