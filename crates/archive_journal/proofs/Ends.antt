@@ -2,6 +2,7 @@
 use Rattle.std.proofs.Common.{◌≡◌, ◌≢◌, ◌⊎◌, inl, inr, ℕ, ◌+◌, ◌-◌, ◌<◌, ◌≤◌, ◌^◌, List, [], ◌∷◌, ◌++◌, length, get_or, take, drop, replicate, Option, Some, None, sym, ◌∙◌, ap, refl, subst, arith, length-take, length-drop}
 use Rattle.std.proofs.lemmas.Bool.{cases_eq, cases_lt}
 use Rattle.std.proofs.lemmas.List.{ext_get_or, get_or-take}
+use Rattle.std.proofs.lemmas.Option.{same_Some}
 use Rattle.medium_model.specs.Content.{Content, settled, written, after_write, after_sync}
 use Rattle.medium_model.specs.State.{IfTold, TornWrite, told}
 use Rattle.medium_model.specs.PowerLoss.{IsImage, EveryImage}
@@ -176,7 +177,4 @@ empty-read (Some c) es is none = none ∙ sym (closed-entries 8 0 c is ∙ no_en
 pub taken-read : (o n : Option Content) (file : List ℕ) (es : List EntryValue) → IfTold o (IsDurableFile file) → es ≡ entries_of file → entries_told n ≡ entries_told o → IfTold n (λ c. es ≡ entries_of c.reads)
 taken-read o None file es is read same = tt
 taken-read None (Some d) file es is read same = absurd (let never : Some (entries_of d.reads) ≡ None = same in cc)
-taken-read (Some c) (Some d) file es is read same = read ∙ ap entries_of is.is ∙ sym (some-same (entries_of d.reads) (entries_of c.reads) same)
-  where
-    some-same : (fs gs : List EntryValue) → Some fs ≡ Some gs → fs ≡ gs
-    some-same fs gs both = cc
+taken-read (Some c) (Some d) file es is read same = read ∙ ap entries_of is.is ∙ sym (same_Some (entries_of d.reads) (entries_of c.reads) same)

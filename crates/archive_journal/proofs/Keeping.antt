@@ -1,5 +1,6 @@
 -- Opening keeps the entries that a power loss might have left.
 use Rattle.std.proofs.Common.{◌≡◌, ℕ, ◌≤◌, List, [], length, Option, Some, None, sym, ◌∙◌, ap, refl, subst}
+use Rattle.std.proofs.lemmas.Option.{same_Some}
 use Rattle.medium_model.specs.Content.{Content, after_sync}
 use Rattle.medium_model.specs.State.{IfTold, told}
 use Rattle.medium_model.specs.PowerLoss.{IsImage, EveryImage}
@@ -12,9 +13,6 @@ use Rattle.archive_journal.proofs.Walks.{small-entries}
 every_untold : (o : Option Content) → EveryImage o (KeepsEntries None)
 every_untold None = tt
 every_untold (Some c) = λ image im. record { old = image; was = tt; same = refl; archive = λ a. a }
-
-told-some : (es fs : List EntryValue) → Some es ≡ Some fs → es ≡ fs
-told-some es fs is = cc
 
 pub keeps-was : (o : Option Content) → EveryImage o (KeepsEntries o)
 keeps-was None = tt
@@ -36,7 +34,7 @@ keeps-held (Some c) (Some d) es was is every = λ image im.
     record {
       old = c.reads;
       was = was;
-      same = told-some (entries_of image) (entries_of c.reads) (held.holds.is ∙ is);
+      same = same_Some (entries_of image) (entries_of c.reads) (held.holds.is ∙ is);
       archive = λ _. held.sound;
     }
 

@@ -117,7 +117,7 @@ stand-more (e ∷ es) n xs (first, e_is, m, n_is, s) is =
     let Q : List ℕ → Type 0 = λ l. is_entry l ≡ true in
     (first, e_is, m + size_at (drop n xs), omega arith, subst P there (stand-more es m (drop (size_at xs) xs) s (subst Q (sym there) is)))
 
--- What stands is what is listed.
+-- Entries one after the other, up to the first that doesn't count, are those that are listed.
 stand-entries : (es : List EntryValue) (n fuel : ℕ) (xs : List ℕ) → Stand es n xs → is_entry (drop n xs) ≡ false → length xs ≤ fuel → entries_in fuel xs ≡ es
 stand-entries [] n zero xs none last few = refl
 stand-entries [] n (suc fuel) xs none last few =
@@ -182,7 +182,7 @@ pub small-entries : (file : List ℕ) → length file ≤ 9 → entries_of file 
 unfolding entries_of
 small-entries file few = stand-entries [] 0 (length file) (drop 8 file) refl (short-entry (drop 8 file) (omega (arith, length-drop 8 file))) (omega (arith, length-drop 8 file))
 
--- a file of which the first gate stands there
+-- a file that has its first gate
 pub file-first : (file : List ℕ) → take 8 file ≡ magic → 8 < length file → StandIn [] 8 file
 file-first file begins there = record { begins = begins; size = 0; place = refl; stand = refl; there = there }
 

@@ -27,6 +27,6 @@ entries_in (suc n) bytes = if is_entry bytes then entry_in (body_at bytes) ∷ e
 unfoldable pub entries_of : List ℕ → List EntryValue
 entries_of file = entries_in (length file) (drop 8 file)
 
--- A file is an archive where it begins with `FMBARCH1`, or has at most nine bytes: such a file is made anew.
+-- A file is an archive where it begins with `FMBARCH1`, or has at most nine bytes: such a file becomes an empty one.
 abbrev pub IsArchive : List ℕ → Type 0
 IsArchive file = (take 8 file ≡ magic) ⊎ (length file ≤ 9)

@@ -43,8 +43,8 @@ impl<M: Medium> Model for Journal<M> {
 }
 
 impl<M: Medium> Journal<M> {
-    /// Opens a medium that a power loss may have left, and gives its entries. A file of at most nine bytes that is no archive is
-    /// made anew, and a last gate that is open is closed.
+    /// Opens a medium that a power loss may have left, and gives its entries. A file of at most nine bytes that is no archive
+    /// becomes an empty one, and a last gate that is open is closed.
     pub fn open(alloc: Global, medium: M) -> Result<(Journal<M>, EntryList), (ArchiveFault, M)>
         ensures durable { IfOk result (λ r. IsDurable r.0) }
         ensures entries { IfOk result (λ r. IfTold (M.state medium).content (λ c. r.1 ≡ entries_of c.reads)) }

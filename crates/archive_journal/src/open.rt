@@ -111,7 +111,7 @@ fn begins(file: &[u8]) -> bool
     file.starts_with(b"FMBARCH1")
 }
 
-// Whether a file is made anew: it has fewer than nine bytes, or nine of which the first eight aren't `FMBARCH1`.
+// Whether a file becomes an empty archive: it has fewer than nine bytes, or nine of which the first eight aren't `FMBARCH1`.
 fn is_made_anew(file: &[u8]) -> bool
     ensures yes_few { IsTrue result → length file.now ≤ 9 }
     ensures other_long { result ≡ false → 8 < length file.now }
@@ -120,8 +120,8 @@ fn is_made_anew(file: &[u8]) -> bool
     file.len() < 9 || (file.len() == 9 && !begins(file))
 }
 
-/// Syncs and reads the file, makes it anew where it has at most nine bytes and is no archive, and closes a last gate that is
-/// open. It gives where the archive ends, and its entries.
+/// Syncs and reads the file, makes it an empty archive where it has at most nine bytes and is none, and closes a last gate
+/// that is open. It gives where the archive ends, and its entries.
 pub fn open_archive<M: Medium>(
     alloc: Global,
     medium: &mut M,

@@ -5,8 +5,8 @@ use avl_values::NoMemory;
 use std::alloc::Global;
 use std::marker::Model;
 
-/// A count of calls, of which those of chosen numbers fail (this project's own). The first call has number 0; a count at its
-/// type's end stands still.
+/// A count of calls, of which those of chosen numbers fail (this project's own). The first call has number 0. The count
+/// stops at 2^64 - 1.
 #[derive(Drop)]
 pub struct FaultPlan {
     failing: Vec<u64>,

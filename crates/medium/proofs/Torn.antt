@@ -13,7 +13,7 @@ use Rattle.medium.proofs.Buffers.{ahead, inside, past, place_of}
 use Rattle.medium_model.proofs.Written.{length-written, get_or-written_before, get_or-written_there, get_or-written_behind}
 
 pub image-torn : (c : Content) (image : List ℕ) → IsTornImage c image → IsImage c image
-image-torn c image torn = record { no_shorter = torn.no_shorter; no_longer = torn.no_longer; stays = λ k _ clean. torn.clean k clean }
+image-torn c image torn = torn.may_be_left
 
 -- the marks after a write
 module _ (at n : ℕ) (was : List Bool) where
@@ -42,26 +42,28 @@ module _ (c d : Content) (at n : ℕ) (image : List ℕ)
   clean_then : (k : ℕ) → get_or d.dirty k false ≡ false → ((k < at) ⊎ (at + n ≤ k)) × (get_or c.dirty k false ≡ false)
   clean_then k clean = clean-marked at n c.dirty k (ap (λ (m : List Bool). get_or m k false) (sym dirty) ∙ clean)
 
+  torn-of : (left : List ℕ) → length d.durable ≤ length left → length left ≤ max (length d.durable) (length d.dirty) → ((k : ℕ) → get_or d.dirty k false ≡ false → get_or left k 0 ≡ get_or d.durable k 0)
+      → IsTornImage d left
+  torn-of left short long clean = record { may_be_left = record { no_shorter = short; no_longer = long; stays = λ k low. clean k }; clean = clean }
+
   -- an image that the write did not reach
   pub torn-marked : IsTornImage d image
-  torn-marked = record {
-    no_shorter = let same = ap length durable in omega (arith, torn.no_shorter);
-    no_longer = let same = ap length durable in omega (arith, torn.no_longer, marks);
-    clean = λ k clean. torn.clean k (clean_then k clean).1 ∙ sym (ap (λ (b : List ℕ). get_or b k 0) durable);
-  }
+  torn-marked = torn-of image
+      (let same = ap length durable in omega (arith, torn.may_be_left.no_shorter))
+      (let same = ap length durable in omega (arith, torn.may_be_left.no_longer, marks))
+      (λ k clean. torn.clean k (clean_then k clean).1 ∙ sym (ap (λ (b : List ℕ). get_or b k 0) durable))
 
   -- an image that the write reached, with at most N bytes
   pub torn-written : (bytes : List ℕ) → length bytes ≤ n → IsTornImage d (written 0 at bytes image)
-  torn-written bytes few = record {
-    no_shorter = let same = ap length durable in omega (arith, torn.no_shorter, length-written 0 at bytes image);
-    no_longer = let same = ap length durable in omega (arith, torn.no_longer, marks, length-written 0 at bytes image);
-    clean = λ k clean.
-        (elim (clean_then k clean).0 as (λ _. get_or (written 0 at bytes image) k 0 ≡ get_or image k 0) [
-          | inl low ↦ get_or-written_before 0 at bytes image k low
-          | inr high ↦ get_or-written_behind 0 at bytes image k (omega arith)
-        ])
-        ∙ torn.clean k (clean_then k clean).1 ∙ sym (ap (λ (b : List ℕ). get_or b k 0) durable);
-  }
+  torn-written bytes few = torn-of (written 0 at bytes image)
+      (let same = ap length durable in omega (arith, torn.may_be_left.no_shorter, length-written 0 at bytes image))
+      (let same = ap length durable in omega (arith, torn.may_be_left.no_longer, marks, length-written 0 at bytes image))
+      (λ k clean.
+      (elim (clean_then k clean).0 as (λ _. get_or (written 0 at bytes image) k 0 ≡ get_or image k 0) [
+        | inl low ↦ get_or-written_before 0 at bytes image k low
+        | inr high ↦ get_or-written_behind 0 at bytes image k (omega arith)
+      ])
+      ∙ torn.clean k (clean_then k clean).1 ∙ sym (ap (λ (b : List ℕ). get_or b k 0) durable))
 
 -- A write in the room keeps the parts together.
 module _ (reads durable : Buffer) (dirty : DirtyMarks) (ready at n : ℕ)

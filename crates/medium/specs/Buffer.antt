@@ -1,9 +1,10 @@
 -- How the media in memory keep their bytes: buffers that are long enough for each write that is allowed, and the filler
 -- after the end.
-use Rattle.std.specs.Prelude.{◌≡◌, ◌⊎◌, ℕ, ◌+◌, ◌<◌, ◌≤◌, ◌^◌, max, Bool, false, List, [], ◌∷◌, length, get_or}
+use Rattle.std.specs.Prelude.{◌≡◌, ◌⊎◌, ℕ, ◌+◌, ◌<◌, ◌≤◌, ◌^◌, Bool, false, List, [], ◌∷◌, length, get_or}
 use Rattle.std.specs.List.{All}
 use Rattle.medium.specs.declared.spans.Span.{Span}
 use Rattle.medium_model.specs.Content.{Content}
+use Rattle.medium_model.specs.PowerLoss.{IsImage}
 
 -- bytes from place 0 on, and the place up to which there is room
 pub record Buffer : Type 0 where
@@ -25,10 +26,9 @@ pub record IsPadded {A : Type 0} (filler : A) (len : ℕ) (items : List A) : Typ
   pub within : len ≤ length items
   pub behind : (k : ℕ) → len ≤ k → get_or items k filler ≡ filler
 
--- an image that has what is durable wherever nothing was written since
+-- a power loss may leave this image, and it has what is durable wherever nothing was written since, also past the durable end
 pub record IsTornImage (c : Content) (image : List ℕ) : Type 0 where
-  pub no_shorter : length c.durable ≤ length image
-  pub no_longer : length image ≤ max (length c.durable) (length c.dirty)
+  pub may_be_left : IsImage c image
   pub clean : (k : ℕ) → get_or c.dirty k false ≡ false → get_or image k 0 ≡ get_or c.durable k 0
 
 -- this place is in none of these spans
@@ -52,7 +52,7 @@ pub record SetFrom {A : Type 0} (d : A) (at n : ℕ) (f : ℕ → A) (before aft
   pub there : (k : ℕ) → k < n → get_or after (at + k) d ≡ f k
   pub elsewhere : (k : ℕ) → (k < at) ⊎ (at + n ≤ k) → get_or after k d ≡ get_or before k d
 
--- no mark stands outside of these spans, or after the end
+-- no mark is set outside of these spans, or after the end
 pub record IsMarked (spans : List Span) (end : ℕ) (marks : List Bool) : Type 0 where
   pub padded : IsPadded false end marks
   pub ends : EndBy end spans

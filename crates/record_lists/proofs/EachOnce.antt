@@ -2,7 +2,7 @@
 use Rattle.std.proofs.Common.{◌≡◌, ◌⊎◌, inl, inr, ℕ, zero, suc, Bool, true, false, ◌||◌, if◌then◌else◌, List, [], ◌∷◌, ◌++◌, fold, length, slice_get, Some, sym, ◌∙◌, ap, refl, subst, arith, length-append, append_assoc}
 use Rattle.std.proofs.lemmas.Bool.{cases_lt}
 use Rattle.std.proofs.lemmas.List.{append-nil, get_or_append_left, get_or_at}
-use Rattle.std.proofs.lemmas.Option.{slice_get_within, slice_get-get_or, get_or_from_slice_get}
+use Rattle.std.proofs.lemmas.Option.{same_Some, slice_get_within, slice_get-get_or, get_or_from_slice_get}
 use Rattle.record_lists.specs.EachOnce.{is_listed, add_once, IsOnce}
 
 -- a test that tells exactly which items are the same
@@ -10,7 +10,7 @@ pub record TellsSame {A : Type 0} (same : A → A → Bool) : Type 0 where
   pub equal : (a b : A) → same a b ≡ true → a ≡ b
   pub itself : (a : A) → same a a ≡ true
 
--- What stands at a place of a list with one item more.
+-- What is at a place of a list with one item more.
 
 pub get-front : {A : Type 0} → (xs ys : List A) (p : ℕ) (s : A) → slice_get xs p ≡ Some s → slice_get (xs ++ ys) p ≡ Some s
 get-front xs ys p s is =
@@ -23,16 +23,13 @@ get-at xs x ys = slice_get-get_or (xs ++ x ∷ ys) (length xs) x (omega (arith, 
 pub get-last : {A : Type 0} → (xs : List A) (x : A) → slice_get (xs ++ x ∷ []) (length xs) ≡ Some x
 get-last xs x = get-at xs x []
 
-some-same : {A : Type 0} → (a b : A) → Some a ≡ Some b → a ≡ b
-some-same a b is = cc
-
 pub get-cases : {A : Type 0} → (xs : List A) (x : A) (p : ℕ) (s : A) → slice_get (xs ++ x ∷ []) p ≡ Some s → (slice_get xs p ≡ Some s) ⊎ ((p ≡ length xs) × (s ≡ x))
 get-cases xs x p s is = elim (cases_lt p (length xs)) as (λ _. (slice_get xs p ≡ Some s) ⊎ ((p ≡ length xs) × (s ≡ x))) [
   | inl low ↦ inl (slice_get-get_or xs p s low ∙ ap Some (sym (get_or_append_left xs (x ∷ []) s p low) ∙ get_or_from_slice_get (xs ++ x ∷ []) p s s is))
   | inr high ↦
       let within = slice_get_within (xs ++ x ∷ []) p s is in
       let at : p ≡ length xs = omega (arith, length-append xs (x ∷ [])) in
-      inr (at, some-same s x (sym is ∙ ap (λ k. slice_get (xs ++ x ∷ []) k) at ∙ get-last xs x))
+      inr (at, same_Some s x (sym is ∙ ap (λ k. slice_get (xs ++ x ∷ []) k) at ∙ get-last xs x))
 ]
 
 pub once-none : {A : Type 0} → IsOnce {A = A} []
@@ -42,7 +39,7 @@ pub once-front : {A : Type 0} → (xs ys : List A) → IsOnce (xs ++ ys) → IsO
 once-front xs ys once p q s at_p at_q = once p q s (get-front xs ys p s at_p) (get-front xs ys q s at_q)
 
 module _ {A : Type 0} (same : A → A → Bool) (tells : TellsSame same) where
-  -- An item is listed exactly where it stands at a place.
+  -- An item is listed exactly where it is at a place.
   pub listed-place : (list : List A) (x : A) → is_listed same list x ≡ true → (p : ℕ) × (slice_get list p ≡ Some x)
   listed-place [] x is = absurd (let never : false ≡ true = is in cc)
   listed-place (y ∷ list) x is = split (λ later. listed-place list x later) (same y x) refl
@@ -61,7 +58,7 @@ module _ {A : Type 0} (same : A → A → Bool) (tells : TellsSame same) where
   place-listed [] x p is = absurd (let low = slice_get_within [] p x is in omega arith)
   place-listed (y ∷ list) x zero is =
       let P : A → Type 0 = λ z. is_listed same (z ∷ list) x ≡ true in
-      subst P (sym (some-same y x is)) (ap (λ b. b || is_listed same list x) (tells.itself x))
+      subst P (sym (same_Some y x is)) (ap (λ b. b || is_listed same list x) (tells.itself x))
   place-listed (y ∷ list) x (suc p) is = or-right (same y x) (is_listed same list x) (place-listed list x p is)
 
   pub not-listed : (list : List A) (x : A) → ((p : ℕ) → slice_get list p ≡ Some x → ⊥) → is_listed same list x ≡ false
@@ -71,7 +68,7 @@ module _ {A : Type 0} (same : A → A → Bool) (tells : TellsSame same) where
       split true is = absurd (let at = listed-place list x is in never at.0 at.1)
       split false is = is
 
-  -- No item stands twice after one that wasn't listed.
+  -- No item is there twice after one that wasn't listed.
   pub once-more : (list : List A) (x : A) → is_listed same list x ≡ false → IsOnce list → IsOnce (list ++ x ∷ [])
   once-more list x new once p q s at_p at_q = elim (get-cases list x p s at_p) as (λ _. p ≡ q) [
     | inl low_p ↦ elim (get-cases list x q s at_q) as (λ _. p ≡ q) [
@@ -99,7 +96,7 @@ module _ {A : Type 0} (same : A → A → Bool) (tells : TellsSame same) where
   once-all list [] once = once
   once-all list (x ∷ more) once = once-all (add_once same list x) more (once-add list x once)
 
-  -- and change nothing where no item stands twice.
+  -- and change nothing where no item is there twice.
   pub fold-once : (before more : List A) → IsOnce (before ++ more) → fold (add_once same) before more ≡ before ++ more
   fold-once before [] once = sym (append-nil before)
   fold-once before (x ∷ more) once =

@@ -2,7 +2,7 @@
 use Rattle.std.proofs.Common.{◌≡◌, ℕ, suc, ◌+◌, ◌<◌, ◌≤◌, ◌==◌, Bool, true, false, ◌||◌, if◌then◌else◌, List, [], ◌∷◌, ◌++◌, length, Option, Some, None, sym, ◌∙◌, ap, refl, subst, arith, append_assoc}
 use Rattle.std.proofs.lemmas.Bool.Decides.{nat_tests}
 use Rattle.std.proofs.lemmas.List.{append-nil}
-use Rattle.std.proofs.lemmas.Option.{none-some}
+use Rattle.std.proofs.lemmas.Option.{none-some, same_Some}
 use Rattle.std.specs.BTreeMap.{BTreeMap, Updates, get}
 use Rattle.std.specs.Ordering.{is_eq, nat_cmp}
 use Rattle.shelf.specs.Archive.{StoredValue, has_device, devices_after, devices_of}
@@ -33,11 +33,8 @@ pub first-low : (k : ℕ) (list : List StoredValue) (q p : ℕ) → first_from k
 first-low k [] q p some = absurd (none-some p some)
 first-low k (x ∷ list) q p some = split (x.imei == q) some (λ rest. first-low (k + 1) list q p rest)
   where
-    number : (a b : ℕ) → Some a ≡ Some b → a ≡ b
-    number a b e = cc
-
     split : (b : Bool) → (if b then Some k else first_from (k + 1) list q) ≡ Some p → (first_from (k + 1) list q ≡ Some p → p < k + 1 + length list) → p < k + length (x ∷ list)
-    split true is rest = let same = number k p is in omega arith
+    split true is rest = let same = same_Some k p is in omega arith
     split false is rest = let low = rest is in omega arith
 
 device-none : (k : ℕ) (list : List StoredValue) (q : ℕ) → first_from k list q ≡ None → has_device list q ≡ false
@@ -128,14 +125,11 @@ counted-less list d e s is last updates count = record { first = λ q. split q (
     before : first_from 0 list s.imei ≡ None
     before = was (first_from 0 list s.imei) refl
       where
-        number : (a b : ℕ) → Some a ≡ Some b → a ≡ b
-        number a b same = cc
-
         was : (o : Option ℕ) → first_from 0 list s.imei ≡ o → first_from 0 list s.imei ≡ None
         was None at = at
         was (Some n) at =
             let low = first-low 0 list s.imei n at in
-            let same = number n (length list) (sym (first-some 0 list (s ∷ []) s.imei n at) ∙ sym (is.first s.imei) ∙ last) in
+            let same = same_Some n (length list) (sym (first-some 0 list (s ∷ []) s.imei n at) ∙ sym (is.first s.imei) ∙ last) in
             absurd (omega arith)
 
     fewer : devices_of (list ++ s ∷ []) ≡ devices_of list + 1
@@ -181,9 +175,6 @@ pub counted-none : (d : Devices) → ((imei : ℕ) → get nat_cmp d.firsts imei
 counted-none d none count = record { first = none; count = count }
 
 -- In the code's words.
-
-pub some-same : (a b : ℕ) → Some a ≡ Some b → a ≡ b
-some-same a b is = cc
 
 pub found-in : (firsts : BTreeMap ℕ ℕ) (n imei : ℕ) (copied looked w : Option ℕ) → n ≡ imei → copied ≡ looked → looked ≡ get nat_cmp firsts n → copied ≡ w → get nat_cmp firsts imei ≡ w
 found-in firsts n imei copied looked w same is read found = ap (get nat_cmp firsts) (sym same) ∙ sym read ∙ sym is ∙ found

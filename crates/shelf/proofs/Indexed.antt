@@ -9,7 +9,7 @@ use Rattle.std.specs.declared.cmp.Ordering.TheVariants.{Less, Equal, Greater}
 use Rattle.std.specs.BTreeMap.{BTreeMap, Updates}
 use Rattle.std.proofs.lemmas.Bool.{cases_lt, false≢true}
 use Rattle.std.proofs.lemmas.Map.Lookups.{exact_unsigned, exact_pairs}
-use Rattle.std.proofs.lemmas.Option.{slice_get_within, none-some}
+use Rattle.std.proofs.lemmas.Option.{same_Some, slice_get_within, none-some}
 use Rattle.avl_values.specs.Record.{Record}
 use Rattle.shelf.specs.Archive.{StoredValue, stored, is_same_stored, has}
 use Rattle.shelf.specs.Index.{Key, key_cmp, place_in, number_at, digest_for, IsFiled, IsIndexed, IsFree}
@@ -23,9 +23,6 @@ equal-is Greater is = absurd (let never : false ≡ true = is in cc)
 
 key-same : (a b : Key) → is_eq (key_cmp a b) ≡ true → a ≡ b
 key-same a b is = exact_pairs nat_cmp nat_cmp exact_unsigned exact_unsigned a b (equal-is (key_cmp a b) is)
-
-some-place : (a b : ℕ) → Some a ≡ Some b → a ≡ b
-some-place a b is = cc
 
 -- What was under another key stays.
 module _ (places more : BTreeMap Key ℕ) (key : Key) (place : ℕ) (updates : Updates key_cmp places more key (Some place)) (none : place_in places key ≡ None) where
@@ -113,7 +110,7 @@ passed-new list find imei r step number indexed passed is none0 = not-listed is_
     never p at filed = elim (cases_lt filed.step step) as (λ _. ⊥) [
       | inl before ↦
           let q = passed.each filed.step before in
-          let same : q.0 ≡ p = some-place q.0 p (sym q.1 ∙ filed.there) in
+          let same : q.0 ≡ p = same_Some q.0 p (sym q.1 ∙ filed.there) in
           q.2 (ap (slice_get list) same ∙ at)
       | inr after ↦ elim (cases_lt step filed.step) as (λ _. ⊥) [
         | inl later ↦ (let P : Option ℕ → Type 0 = λ o. IsSome o in false≢true (subst P none (filed.full step later)))

@@ -1,6 +1,6 @@
 -- What the record list and the images of a shelf keep to, whatever is answered.
 use Rattle.std.proofs.Common.{◌≡◌, ℕ, Bool, true, false, ◌==◌, if◌then◌else◌, List, [], ◌∷◌, ◌++◌, map, Option, Some, None, Result, sym, ◌∙◌, ap, refl, subst, append_assoc}
-use Rattle.std.proofs.lemmas.Option.{none-some}
+use Rattle.std.proofs.lemmas.Option.{none-some, same_Some}
 use Rattle.avl_values.specs.Record.{Record}
 use Rattle.medium_model.specs.Content.{Content, settled}
 use Rattle.medium_model.specs.Images.{unchanged, changed}
@@ -36,16 +36,13 @@ list_of-once es = once-listed [] es once-none
 
 -- After any answer each image has the list before, or the one after.
 
-some-entries : (es fs : List EntryValue) → Some es ≡ Some fs → es ≡ fs
-some-entries es fs is = cc
-
 pub lists-after : (old new : ShelfView) (imei : ℕ) (body : List ℕ) (result : Result Receipt AdmitFault) → IsDurable old → Leaves old imei body result new
     → EachHolds new.medium (ListsEither old.list (admitted old.list imei (records_of body)))
 lists-after old new imei body result durable leaves = images-of old.medium.content new.medium.content durable.reads (leaves.images durable.up)
   where
     either : (es fs : List EntryValue) → list_of es ≡ old.list → images.IsEither (Some es) (with_entry (new_entry old.list imei (records_of body)) (Some es)) (Some fs) → images.IsEither old.list (admitted old.list imei (records_of body)) (list_of fs)
-    either es fs has (unchanged is) = unchanged (ap list_of (some-entries fs es is) ∙ has)
-    either es fs has (changed is) = changed (ap list_of (some-entries fs (es ++ new_entry old.list imei (records_of body) ∷ []) is) ∙ listed-more [] es (new_entry old.list imei (records_of body))
+    either es fs has (unchanged is) = unchanged (ap list_of (same_Some fs es is) ∙ has)
+    either es fs has (changed is) = changed (ap list_of (same_Some fs (es ++ new_entry old.list imei (records_of body) ∷ []) is) ∙ listed-more [] es (new_entry old.list imei (records_of body))
         ∙ ap (λ (l : List StoredValue). admitted l imei (fresh old.list imei (records_of body))) has ∙ fresh-again old.list imei (records_of body))
 
     nothing : (fs : List EntryValue) → images.IsEither None None (Some fs) → ListsEither old.list (admitted old.list imei (records_of body)) fs
@@ -71,7 +68,7 @@ each-holds v P durable reads = of v.medium.content durable.told reads
   where
     of : (o : Option Content) → EveryImage o (HoldsWith (IsTold (entries_told o))) → IfTold o (λ c. P (entries_of c.reads)) → EveryImage o (HoldsWith P)
     of None told reads = tt
-    of (Some c) told reads = λ image im. let held = told image im in record { sound = held.sound; holds = subst P (sym (some-entries (entries_of image) (entries_of c.reads) held.holds.is)) reads }
+    of (Some c) told reads = λ image im. let held = told image im in record { sound = held.sound; holds = subst P (sym (same_Some (entries_of image) (entries_of c.reads) held.holds.is)) reads }
 
 -- The entries that `admit` appends hold no record of a device twice.
 
@@ -98,10 +95,10 @@ pub each_once-after : (old new : ShelfView) (imei : ℕ) (body : List ℕ) (resu
 each_once-after old new imei body result durable once leaves = images-of old.medium.content new.medium.content durable.reads once (leaves.images durable.up)
   where
     either : (es fs : List EntryValue) → list_of es ≡ old.list → HoldEachOnce es → images.IsEither (Some es) (with_entry (new_entry old.list imei (records_of body)) (Some es)) (Some fs) → HoldEachOnce fs
-    either es fs has once (unchanged is) = subst HoldEachOnce (sym (some-entries fs es is)) once
+    either es fs has once (unchanged is) = subst HoldEachOnce (sym (same_Some fs es is)) once
     either es fs has once (changed is) =
         let P : List StoredValue → Type 0 = λ l. HoldEachOnce (es ++ new_entry l imei (records_of body) ∷ []) in
-        subst HoldEachOnce (sym (some-entries fs (es ++ new_entry old.list imei (records_of body) ∷ []) is)) (subst P has (each_once-more es imei (records_of body) once))
+        subst HoldEachOnce (sym (same_Some fs (es ++ new_entry old.list imei (records_of body) ∷ []) is)) (subst P has (each_once-more es imei (records_of body) once))
 
     nothing : (fs : List EntryValue) → images.IsEither None None (Some fs) → HoldEachOnce fs
     nothing fs (unchanged is) = absurd (none-some fs (sym is))

@@ -2,6 +2,7 @@
 use Rattle.std.proofs.Common.{◌≡◌, inl, inr, ℕ, ◌<◌, ◌≤◌, Bool, true, false, if◌then◌else◌, List, [], ◌∷◌, ◌++◌, length, take, drop, map, Option, Some, None, Ok, Err, sym, ◌∙◌, ap, refl, subst, arith, length-append, append_assoc}
 use Rattle.std.proofs.lemmas.List.{append-nil, length-map, take_at, drop_at}
 use Rattle.std.proofs.lemmas.Bool.{cases_lt}
+use Rattle.std.proofs.lemmas.Option.{same_Some}
 use Rattle.avl_values.specs.Causes.{Rose}
 use Rattle.avl_values.specs.Record.{Record}
 use Rattle.medium_model.specs.Content.{Content}
@@ -75,9 +76,6 @@ cut-is list staged cut known imei rs at is cut_at = cut_at ∙ ap (take known) (
 
 -- The images of a journal.
 
-some-entries : (es fs : List EntryValue) → Some es ≡ Some fs → es ≡ fs
-some-entries es fs is = cc
-
 pub lists-images : (j : JournalView) (list : List StoredValue) → journal.IsDurable j → IfTold j.medium.content (HasList list) → EachHolds j.medium (Lists list)
 lists-images j list durable has_list = images j.medium.content durable.same has_list
   where
@@ -85,13 +83,13 @@ lists-images j list durable has_list = images j.medium.content durable.same has_
     images None every is = tt
     images (Some c) every is = λ image im.
         let held = every image im in
-        record { sound = held.sound; holds = record { is = ap list_of (some-entries (entries_of image) (entries_of c.reads) held.holds.is) ∙ is.is } }
+        record { sound = held.sound; holds = record { is = ap list_of (same_Some (entries_of image) (entries_of c.reads) held.holds.is) ∙ is.is } }
 
 pub lists-more : (o n : Option Content) (list : List StoredValue) (e : EntryValue) → IfTold o (HasList list) → entries_told n ≡ with_entry e (entries_told o) → IfTold n (HasList (admitted list e.imei e.records))
 lists-more o None list e is more = tt
 lists-more None (Some d) list e is more = absurd (let never : Some (entries_of d.reads) ≡ None = more in cc)
 lists-more (Some c) (Some d) list e is more = record {
-  is = ap list_of (some-entries (entries_of d.reads) (entries_of c.reads ++ e ∷ []) more) ∙ listed-more [] (entries_of c.reads) e ∙ ap (λ (l : List StoredValue). admitted l e.imei e.records) is.is;
+  is = ap list_of (same_Some (entries_of d.reads) (entries_of c.reads ++ e ∷ []) more) ∙ listed-more [] (entries_of c.reads) e ∙ ap (λ (l : List StoredValue). admitted l e.imei e.records) is.is;
 }
 
 pub images-unchanged : (j : JournalView) (more : Option (List EntryValue)) → journal.IsDurable j → EachHolds j.medium (IsEither (entries_told j.medium.content) more)

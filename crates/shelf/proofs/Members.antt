@@ -1,7 +1,7 @@
 -- Which records a list has after a history, and which calls of a history are under some numbers.
 use Rattle.std.proofs.Common.{◌≡◌, ◌⊎◌, inl, inr, ℕ, zero, suc, ◌+◌, ◌==◌, ◌<◌, ◌≤◌, Bool, true, false, List, [], ◌∷◌, ◌++◌, length, map, slice_get, Some, Ok, Err, if◌then◌else◌, sym, ◌∙◌, ap, refl, subst, arith}
 use Rattle.std.proofs.lemmas.Bool.Decides.{nat_tests}
-use Rattle.std.proofs.lemmas.Option.{slice_get_within}
+use Rattle.std.proofs.lemmas.Option.{same_Some, slice_get_within}
 use Rattle.avl_values.specs.Record.{Record}
 use Rattle.shelf.specs.Archive.{StoredValue, stored, has, admitted, fresh, ArePlaces, Begins}
 use Rattle.shelf.specs.Admits.{Answer, list_after, down_after, Fits}
@@ -29,10 +29,7 @@ in-append {X = X} (z ∷ xs) ys x (inr there) = elim (in-append xs ys x there) a
 
 pub in-place : {X : Type 0} → (xs : List X) (p : ℕ) (x : X) → slice_get xs p ≡ Some x → In xs x
 in-place [] p x is = absurd (let low = slice_get_within [] p x is in omega arith)
-in-place (y ∷ xs) zero x is = inl (same y x is)
-  where
-    same : {X : Type 0} → (a b : X) → Some a ≡ Some b → a ≡ b
-    same a b is = cc
+in-place (y ∷ xs) zero x is = inl (same_Some y x is)
 in-place (y ∷ xs) (suc p) x is = inr (in-place xs p x is)
 
 -- Members of a record list.

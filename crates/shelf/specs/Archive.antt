@@ -64,7 +64,7 @@ recs_for imei (s ∷ list) = if s.imei == imei then s.rec ∷ recs_for imei list
 pub record HoldEachOnce (es : List EntryValue) : Type 0 where
   pub is : all_of es ≡ list_of es
 
--- each of these records of a device stands at its place
+-- each of these records of a device is at its place
 abbrev pub ArePlaces : List StoredValue → ℕ → List Record → List ℕ → Type 0
 ArePlaces list imei [] [] = Unit {0}
 ArePlaces list imei [] (p ∷ ps) = ⊥

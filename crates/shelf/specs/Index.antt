@@ -1,4 +1,4 @@
--- The index beside the record list: a map to places, by device and a number. A record's place stands under its digest, or,
+-- The index beside the record list: a map to places, by device and a number. A record's place is under its digest, or,
 -- where that has the place of another record, under the first of the numbers after it that was free.
 use Rattle.std.specs.Prelude.{◌≡◌, ℕ, ◌+◌, ◌%◌, ◌^◌, ◌<◌, false, List, slice_get, Option, Some, None, IsSome}
 use Rattle.std.specs.BTreeMap.{BTreeMap, get}
@@ -28,7 +28,7 @@ place_in places key = get key_cmp places key
 abbrev pub number_at : ℕ → ℕ → ℕ
 number_at digest step = (digest + step) % 2 ^ 64
 
--- A record's place stands some steps after its digest, and each number before has a place, too.
+-- A record's place is some steps after its digest, and each number before has a place, too.
 pub record IsFiled (find : Key → Option ℕ) (imei digest place : ℕ) : Type 0 where
   pub step : ℕ
   pub there : find (imei, number_at digest step) ≡ Some place
@@ -37,7 +37,7 @@ pub record IsFiled (find : Key → Option ℕ) (imei digest place : ℕ) : Type 
 abbrev pub digest_for : Record → ℕ
 digest_for r = digest_of r.codec r.bytes
 
--- The index has the place of each record that is listed. It may have more: a place at which another record stands, or none.
+-- The index has the place of each record that is listed. It may have more: a place at which another record is, or none.
 pub record IsIndexed (list : List StoredValue) (find : Key → Option ℕ) : Type 0 where
   pub each : (p : ℕ) (s : StoredValue) → slice_get list p ≡ Some s → IsFiled find s.imei (digest_for s.rec) p
 

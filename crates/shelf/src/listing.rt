@@ -24,7 +24,7 @@ use std::marker::Model;
 // Places by device and a number.
 type Places = BTreeMap<(u64, u64), u64>;
 
-// Where a record is, or where the index may have it.
+/// Where a record is in the list, or else a number that is free in the index, under which its place can be put.
 pub enum Slot {
     Place(u64),
     Free(u64),

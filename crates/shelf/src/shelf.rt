@@ -47,7 +47,8 @@ impl<M: Medium> Model for Shelf<M> {
 }
 
 impl<M: Medium> Shelf<M> {
-    /// Opens a medium that a power loss may have left. A file of at most nine bytes that is no archive is made anew.
+    /// Opens a medium that a power loss may have left. A file of at most nine bytes that is no archive becomes an
+    /// empty one.
     pub fn open(alloc: Global, medium: M) -> Result<Shelf<M>, (ArchiveFault, M)>
         ensures durable { IfOk result IsDurable }
         ensures list { IfOk result (λ s. IfTold (M.state medium).content (λ c. s.list ≡ list_of (entries_of c.reads))) }

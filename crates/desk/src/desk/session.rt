@@ -17,6 +17,7 @@ pub struct DeskSeat<'a, R: Wait, M: Medium> {
 }
 
 impl<'a, R: Wait, M: Medium> DeskSeat<'a, R, M> {
+    /// Sits down at the desk that gave this seat. It makes no call and takes no memory.
     pub fn new(rt: &'a R, desk: &'a Desk<M>, seat: Seat<M>) -> DeskSeat<'a, R, M>
         requires { IsSeatOf desk.now seat }
         ensures desk { result.desk.now ≡ desk.now }

@@ -1,6 +1,6 @@
 use Rattle.std.proofs.Common.{◌∙◌, sym, ap, Some, arith}
-use Rattle.std.proofs.lemmas.Option.{none-some}
-use Rattle.shelf.proofs.Counted.{counted-less, counted-kept, counted-some, found-in, updates-at, some-same}
+use Rattle.std.proofs.lemmas.Option.{none-some, same_Some}
+use Rattle.shelf.proofs.Counted.{counted-less, counted-kept, counted-some, found-in, updates-at}
 use Rattle.shelf.proofs.devices.Devices.forget.Goals as goal
 
 pub overflow_sub-self : goal.overflow_sub-self
@@ -15,7 +15,7 @@ returns-in-None c =
 pub returns-else-first-list : goal.returns-else-first-list
 returns-else-first-list c =
     let found = found-in c.args.self.now.firsts _ _ _ _ _ (c.number-number.ensures.value ∙ c.imei.ensures) c.copied.ensures c.get.ensures.value c.in-Some.is in
-    counted-kept c.args.list.now c.args.self.now c.args.last.now c.requires (λ at. c.if-first-list.false (some-same _ _ (sym found ∙ at)))
+    counted-kept c.args.list.now c.args.self.now c.args.last.now c.requires (λ at. c.if-first-list.false (same_Some _ _ (sym found ∙ at)))
 
 pub returns-then-first-list : goal.returns-then-first-list
 returns-then-first-list c =
