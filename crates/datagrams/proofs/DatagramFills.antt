@@ -5,7 +5,7 @@ use Rattle.avl_values.specs.Imei.{decimal_places, imei_text}
 use Rattle.avl_values.specs.declared.fault.FaultKind.TheVariants.{DatagramLength}
 use Rattle.layout.specs.Bytes.{AreBytes}
 use Rattle.layout.specs.Nested.{with_bytes}
-use Rattle.layout.specs.Rows.{Rows, Fills}
+use Rattle.layout.specs.Rows.{Fills}
 use Rattle.layout.proofs.Numbers.{length_spell}
 use Rattle.layout.proofs.MappedLaws.{map_fill, map_take}
 use Rattle.record_layout.specs.PacketRows.{packet_rows}
@@ -13,11 +13,10 @@ use Rattle.record_layout.specs.declared.head.PacketHead.{PacketHead}
 use Rattle.record_layout.proofs.Fitting.{exactly, is_exactly}
 use Rattle.record_layout.specs.Body.{IsBody}
 use Rattle.frame_layout.specs.Items.{login_of}
-use Rattle.frame_layout.specs.Logins.{login_rows}
 use Rattle.frame_layout.proofs.LoginFills.{login_fill, login_take}
 use Rattle.frame_layout.proofs.SaidBytes.{said, saying}
 use Rattle.frame_layout.proofs.KindFills.{body_fills, filled_body}
-use Rattle.datagrams.specs.DatagramRows.{body_rows, datagram_rows, numbers_rows}
+use Rattle.datagrams.specs.DatagramRows.{after_numbers, body_rows, datagram_rows, numbers_rows}
 use Rattle.datagrams.specs.Items.{IsDatagram, content_of, datagram_of}
 use Rattle.datagrams.specs.Values.{DatagramValue}
 use Rattle.datagrams.proofs.NumbersFills.{joined_number, joined_numbers, length_fill, length_take, numbers_fill, numbers_take}
@@ -45,10 +44,6 @@ unfolding decimal_places
 places_length zero n = refl
 places_length (suc k) n = omega (arith, length-append (decimal_places k (n / 10)) ((48 + n % 10) ∷ []), places_length k (n / 10))
 
--- after the numbers stand the IMEI and the data body
-abbrev pub behind_numbers : ℕ → ℕ → ℕ → Rows DatagramValue
-behind_numbers packet unused avl_packet = login_rows (λ imei. body_rows (λ body. record { packet = packet; unused = unused; avl_packet = avl_packet; imei = imei; body = body }))
-
 pub datagram_length : (v : DatagramValue) → length (datagram_of v) ≡ 23 + length v.body
 datagram_length v = omega (arith, length-append (imei_text v.imei) v.body, places_length 15 v.imei)
 
@@ -62,17 +57,17 @@ datagram_fills v bytes is =
     let n = length (content_of v) in
     let total : n + 2 ≡ length bytes = omega (arith, size, ap length is.is) in
     let body = body_fill (λ b. record { packet = v.packet; unused = v.unused; avl_packet = v.avl_packet; imei = v.imei; body = b }) is.head v.body is.of_body in
-    let login : Fills (behind_numbers v.packet v.unused v.avl_packet) v (login_of v.imei ++ v.body) =
+    let login : Fills (after_numbers v.packet v.unused v.avl_packet) v (login_of v.imei ++ v.body) =
     login_fill (λ imei. body_rows (λ b. record { packet = v.packet; unused = v.unused; avl_packet = v.avl_packet; imei = imei; body = b })) v.imei v v.body is.imei body in
-    let numbers : Fills (numbers_rows behind_numbers) v (content_of v) = numbers_fill behind_numbers v v.packet v.unused v.avl_packet (login_of v.imei ++ v.body) is.packet is.unused is.avl_packet login in
+    let numbers : Fills (numbers_rows after_numbers) v (content_of v) = numbers_fill after_numbers v v.packet v.unused v.avl_packet (login_of v.imei ++ v.body) is.packet is.unused is.avl_packet login in
     subst (Fills (datagram_rows (length bytes)) v) (sym is.is)
-    (length_fill (length bytes) n (λ k. k + 2 == length bytes) (numbers_rows behind_numbers) v (content_of v) (omega (arith, total)) is.fits (exactly (n + 2) (length bytes) DatagramLength total) numbers)
+    (length_fill (length bytes) n (λ k. k + 2 == length bytes) (numbers_rows after_numbers) v (content_of v) (omega (arith, total)) is.fits (exactly (n + 2) (length bytes) DatagramLength total) numbers)
 
 pub fills_datagram : (total : ℕ) (v : DatagramValue) (bytes : List ℕ) → AreBytes bytes → length bytes ≡ total → Fills (datagram_rows total) v bytes → IsDatagram v bytes
 unfolding datagram_rows
 fills_datagram total v bytes p len fills =
-    let size = length_take total (λ k. k + 2 == total) (numbers_rows behind_numbers) v bytes p fills in
-    let numbers = numbers_take behind_numbers v size.more size.bytes_behind size.fills in
+    let size = length_take total (λ k. k + 2 == total) (numbers_rows after_numbers) v bytes p fills in
+    let numbers = numbers_take after_numbers v size.more size.bytes_behind size.fills in
     let login = login_take (λ imei. body_rows (λ b. record { packet = numbers.packet; unused = numbers.unused; avl_packet = numbers.avl_packet; imei = imei; body = b })) v numbers.more numbers.bytes_behind numbers.fills in
     let body = body_take (λ b. record { packet = numbers.packet; unused = numbers.unused; avl_packet = numbers.avl_packet; imei = login.imei; body = b }) v login.more login.bytes_behind login.fills in
     let w : DatagramValue = record { packet = numbers.packet; unused = numbers.unused; avl_packet = numbers.avl_packet; imei = login.imei; body = login.more } in

@@ -1,5 +1,5 @@
 -- The laws of datagrams.
-use Rattle.std.proofs.Common.{◌≡◌, ℕ, ◌+◌, ◌≤◌, List, [], ◌++◌, length, take, drop, refl, sym, ap, subst, ◌∙◌, arith, length-take, length-drop}
+use Rattle.std.proofs.Common.{◌≡◌, ℕ, List, ◌++◌, length, take, refl, sym, ap, subst, ◌∙◌, arith, length-take}
 use Rattle.std.specs.Int.{bytes_high_first}
 use Rattle.layout.specs.Fields.{number}
 use Rattle.layout.specs.Rows.{body, Fills}

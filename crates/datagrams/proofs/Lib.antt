@@ -1,10 +1,7 @@
 pub mod DatagramFills
 pub mod DatagramLaws
 pub mod DatagramReads
-pub mod DigitReads
-pub mod NumberReads
 pub mod NumbersFills
-pub mod ReadSteps
+pub mod PlaceSteps
 pub mod ReplyFills
 pub mod ReplyReads
-pub mod Results

@@ -5,11 +5,11 @@ use Rattle.std.proofs.lemmas.Bool.{lt-ltb, le-ltb}
 use Rattle.std.specs.Int.{bytes_high_first}
 use Rattle.avl_values.specs.declared.fault.FaultKind.TheVariants.{DatagramLength}
 use Rattle.layout.specs.Bytes.{AreBytes}
-use Rattle.layout.specs.Fields.{fault_unless, number_row}
+use Rattle.layout.specs.Fields.{fault_unless}
 use Rattle.layout.specs.Rows.{Rows, refuse, Fills}
 use Rattle.layout.proofs.Filling.{no_refusal}
 use Rattle.layout.proofs.NumberFills.{number_fill, number_take, spell-one}
-use Rattle.datagrams.specs.DatagramRows.{any_number, length_rows, numbers_rows}
+use Rattle.datagrams.specs.DatagramRows.{any_number, length_row, length_rows, numbers_rows}
 
 -- Bytes put together.
 
@@ -85,12 +85,12 @@ numbers_take rest v bytes p fills =
 
 pub no_length : {V : Type 0} (total : ℕ) (right : ℕ → Bool) (rest : Rows V) → total < 2 → length_rows total right rest ≡ refuse DatagramLength
 no_length {V = V} total right rest few =
-    let some : Rows V = number_row 2 (λ n. fault_unless (right n) DatagramLength) (λ _. rest) in
+    let some : Rows V = length_row right rest in
     ap (λ b. if b then refuse DatagramLength else some) (lt-ltb total 2 few)
 
-pub some_length : {V : Type 0} (total : ℕ) (right : ℕ → Bool) (rest : Rows V) → 2 ≤ total → length_rows total right rest ≡ number_row 2 (λ n. fault_unless (right n) DatagramLength) (λ _. rest)
+pub some_length : {V : Type 0} (total : ℕ) (right : ℕ → Bool) (rest : Rows V) → 2 ≤ total → length_rows total right rest ≡ length_row right rest
 some_length {V = V} total right rest some =
-    let rows : Rows V = number_row 2 (λ n. fault_unless (right n) DatagramLength) (λ _. rest) in
+    let rows : Rows V = length_row right rest in
     ap (λ b. if b then refuse DatagramLength else rows) (le-ltb total 2 some)
 
 pub length_fill : {V : Type 0} (total n : ℕ) (right : ℕ → Bool) (rest : Rows V) (v : V) (more : List ℕ) → 2 ≤ total → n < 2 ^ 16 → fault_unless (right n) DatagramLength ≡ None → Fills rest v more
@@ -107,13 +107,13 @@ pub record TakenLength {V : Type 0} (right : ℕ → Bool) (rest : Rows V) (v : 
   pub fills : Fills rest v more
   pub bytes_behind : AreBytes more
 
-length_by : {V : Type 0} (right : ℕ → Bool) (rest : Rows V) (v : V) (bytes : List ℕ) → AreBytes bytes → Fills (number_row 2 (λ n. fault_unless (right n) DatagramLength) (λ _. rest)) v bytes → TakenLength right rest v bytes
+length_by : {V : Type 0} (right : ℕ → Bool) (rest : Rows V) (v : V) (bytes : List ℕ) → AreBytes bytes → Fills (length_row right rest) v bytes → TakenLength right rest v bytes
 length_by right rest v bytes p fills =
     let t = number_take 2 (λ n. fault_unless (right n) DatagramLength) (λ _. rest) v bytes p fills in
     record { n = t.n; more = t.more; is = t.is; small = omega (arith, t.bound); passes = t.passes; fills = t.fills; bytes_behind = t.bytes_behind }
 
 length_cases : {V : Type 0} (b : Bool) (right : ℕ → Bool) (rest : Rows V) (v : V) (bytes : List ℕ) → AreBytes bytes
-    → Fills (if b then refuse DatagramLength else number_row 2 (λ n. fault_unless (right n) DatagramLength) (λ _. rest)) v bytes → TakenLength right rest v bytes
+    → Fills (if b then refuse DatagramLength else length_row right rest) v bytes → TakenLength right rest v bytes
 length_cases true right rest v bytes p fills = absurd (no_refusal DatagramLength v bytes fills)
 length_cases false right rest v bytes p fills = length_by right rest v bytes p fills
 

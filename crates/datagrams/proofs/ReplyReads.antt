@@ -12,7 +12,7 @@ use Rattle.datagrams.specs.DatagramRows.{numbers_rows, reply_rows, reply_verdict
 use Rattle.datagrams.specs.Items.{IsReply}
 use Rattle.datagrams.specs.Values.{ReplyValue}
 use Rattle.datagrams.proofs.DatagramLaws.{reply_whole}
-use Rattle.datagrams.proofs.NumberReads.{wrong_length}
+use Rattle.datagrams.proofs.DatagramReads.{wrong_length}
 use Rattle.datagrams.proofs.ReplyFills.{behind_numbers}
 
 -- seven bytes, one by one

@@ -19,21 +19,26 @@ any_number width rest = number_row width (λ _. None) rest
 abbrev pub numbers_rows : {V : Type 0} → (ℕ → ℕ → ℕ → Rows V) → Rows V
 numbers_rows rest = any_number 2 (λ packet. any_number 1 (λ unused. any_number 1 (λ avl_packet. rest packet unused avl_packet)))
 
--- the length in two bytes, which is right by this test; fewer than two bytes have no length
+-- the length in two bytes, which is right by this test
+abbrev pub length_row : {V : Type 0} → (ℕ → Bool) → Rows V → Rows V
+length_row right rest = number_row 2 (λ n. fault_unless (right n) DatagramLength) (λ _. rest)
+
+-- the same; fewer than two bytes have no length
 abbrev pub length_rows : {V : Type 0} → ℕ → (ℕ → Bool) → Rows V → Rows V
-length_rows total right rest = if nat_lt total 2 then refuse DatagramLength else number_row 2 (λ n. fault_unless (right n) DatagramLength) (λ _. rest)
+length_rows total right rest = if nat_lt total 2 then refuse DatagramLength else length_row right rest
 
 -- a data body, and then the datagram says its bytes
 abbrev pub body_rows : (List ℕ → DatagramValue) → Rows DatagramValue
 body_rows says = map_value (λ b. says b.1) (with_bytes [] packet_rows)
 
--- a datagram of N bytes: the length of what follows, the three numbers, the IMEI as a login holds it, and the data body
+-- after the numbers come the IMEI as a login holds it, and the data body
+abbrev pub after_numbers : ℕ → ℕ → ℕ → Rows DatagramValue
+after_numbers packet unused avl_packet =
+    login_rows (λ imei. body_rows (λ body. record { packet = packet; unused = unused; avl_packet = avl_packet; imei = imei; body = body }))
+
+-- a datagram of N bytes: the length of what follows, the three numbers, the IMEI and the data body
 unfoldable pub datagram_rows : ℕ → Rows DatagramValue
-datagram_rows total =
-    length_rows total (λ n. n + 2 == total)
-    (numbers_rows
-    (λ packet unused avl_packet.
-    login_rows (λ imei. body_rows (λ body. record { packet = packet; unused = unused; avl_packet = avl_packet; imei = imei; body = body }))))
+datagram_rows total = length_rows total (λ n. n + 2 == total) (numbers_rows after_numbers)
 
 -- a reply of N bytes, which are seven: the length 5, the three numbers and the count
 unfoldable pub reply_rows : ℕ → Rows ReplyValue

@@ -1,6 +1,7 @@
+pub mod BodyRows
 pub mod DatagramRows
 pub mod Items
 pub mod Laws
-pub mod Reading
+pub mod Places
 pub mod Values
 pub mod Views

@@ -3,8 +3,8 @@
 #![tactic(auto)]
 
 mod datagram;
-mod field;
 mod laws;
+mod place;
 mod reading;
 mod reply;
 mod writing;
