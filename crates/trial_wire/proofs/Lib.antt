@@ -6,6 +6,7 @@ pub mod Hearing
 pub mod Histories
 pub mod Living
 pub mod Logs
+pub mod OneStream
 pub mod Passing
 pub mod Reading
 pub mod Rounding

@@ -12,7 +12,9 @@ use Rattle.avl_values.specs.Imei.{decimal_places}
 use Rattle.avl_values.specs.declared.fault.FaultKind.{FaultKind}
 use Rattle.crc_field.specs.Crc.{crc_of}
 use Rattle.layout.specs.Rows.{Verdict, fault, judge, short, whole}
+use Rattle.record_layout.specs.Body.{IsBody}
 use Rattle.record_layout.specs.RecordsOf.{records_of}
+use Rattle.record_layout.specs.declared.head.PacketHead.{PacketHead}
 use Rattle.record_layout.proofs.BodyLaws.{body_judged}
 use Rattle.item_streams.specs.Streams.{Item, IsNotWhole, Reading, ended_by, next_rows, place_after, reading_of}
 use Rattle.item_streams.proofs.StreamLaws.{fault_ends, front_read, nothing_read, rows_begin}
@@ -24,7 +26,7 @@ use Rattle.frame_layout.specs.Values.{UpValue, login, packet}
 use Rattle.frame_layout.proofs.Lengths.{starts_short_up}
 use Rattle.frame_layout.proofs.UpLaws.{up_whole}
 use Rattle.session_core.proofs.Reading.{up_stream}
-use Rattle.tracker_session.specs.Sending.{AreSentBodies, IsSentBody, stream_up}
+use Rattle.tracker_session.specs.Sending.{AreSentBodies, stream_up}
 use Rattle.trial_model.specs.Frames.{Frame, Stream, body_at, frames_from, frames_within, has_frame, is_packet, is_whole, login_size, stream_of}
 use Rattle.trial_model.specs.Answers.{last_end}
 use Rattle.trial_wire.specs.Hearing.{as_frames, items_in, rest_in}
@@ -69,21 +71,21 @@ whole-read imei bodies are digits =
 
 -- The frames of the stream.
 
-front-body : (b more : List ℕ) → length b < 2 ^ 32 → body_at (frame_of b ++ more) ≡ b
+pub front-body : (b more : List ℕ) → length b < 2 ^ 32 → body_at (frame_of b ++ more) ≡ b
 front-body b more few =
     let size = from_be_bytes-to_be_bytes_4 (length b) few in
     let tail = 0 ∷ 0 ∷ to_be_bytes w16 (crc_of b) in
     rw size (ap (take (length b)) (append_assoc b tail more) ∙ take_at b (tail ++ more) (length b) refl)
 
-front-frame : (b more : List ℕ) → IsSentBody b → length b < 2 ^ 32 → has_frame (frame_of b ++ more) ≡ true
-front-frame b more s few =
+pub front-frame : (head : PacketHead) (b more : List ℕ) → IsBody head b → length b < 2 ^ 32 → has_frame (frame_of b ++ more) ≡ true
+front-frame head b more of_body few =
     let at = front-body b more few in
-    let packet_is : is_packet (body_at (frame_of b ++ more)) ≡ true = ap is_packet at ∙ ap is_whole (body_judged s.head b s.frame.of_body) in
+    let packet_is : is_packet (body_at (frame_of b ++ more)) ≡ true = ap is_packet at ∙ ap is_whole (body_judged head b of_body) in
     let begins : starts_with nat_eq (frame_of b ++ more) (frame_of (body_at (frame_of b ++ more))) ≡ true =
     ap (λ x. starts_with nat_eq (frame_of b ++ more) (frame_of x)) at ∙ (ap (bytes_eq (frame_of b)) (take_at (frame_of b) more (length (frame_of b)) refl) ∙ (bytes_eq-Decides (frame_of b) (frame_of b)).1 refl) in
     rw (packet_is, begins) refl
 
-no-frame : (most place : ℕ) → frames_from most place [] ≡ record { frames = []; rest = [] }
+pub no-frame : (most place : ℕ) → frames_from most place [] ≡ record { frames = []; rest = [] }
 unfolding frames_from
 no-frame zero place = refl
 no-frame (suc most) place = rw (never (is_packet (body_at []))) refl
@@ -100,7 +102,7 @@ frames-read (suc most) place (b ∷ bodies) are few =
     let more = flat_map frame_of bodies in
     let small : length b < 2 ^ 32 = omega (arith, are.0.frame.fits) in
     let rest : drop (12 + length b) (frame_of b ++ more) ≡ more = drop_at (frame_of b) more (12 + length b) (frame-length b) in
-    rw (front-frame b more are.0 small, front-body b more small, rest, frames-read most (place + (12 + length b)) bodies are.1 (omega arith)) refl
+    rw (front-frame are.0.head b more are.0.frame.of_body small, front-body b more small, rest, frames-read most (place + (12 + length b)) bodies are.1 (omega arith)) refl
 
 bodies-few : (bodies : List (List ℕ)) → length bodies ≤ length (flat_map frame_of bodies)
 bodies-few [] = omega arith

@@ -2,8 +2,10 @@
 //! through.
 #![tactic(auto)]
 
+mod laws;
 mod pieces;
 mod wire;
 
+pub use laws::{frames_are_read, rest_is_read};
 pub use pieces::give;
 pub use wire::{Wire, WireParts};
