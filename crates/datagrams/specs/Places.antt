@@ -1,4 +1,4 @@
--- Where in a datagram the next field stands.
+-- Where in a datagram the next field is.
 use Rattle.std.specs.Prelude.{◌≡◌, ℕ, suc, ◌+◌, ◌==◌, List, Some}
 use Rattle.std.proofs.Common.{refl, ap, ◌∙◌}
 use Rattle.layout.specs.Next.{width_of}

@@ -1,4 +1,4 @@
-//! Where in a datagram the next field stands.
+//! Where in a datagram the next field is.
 ghost use Rattle.std.specs.Prelude.{◌≡◌, ◌+◌, ◌==◌, ◌^◌, ◌<◌, ℕ, suc, List, IfOk};
 ghost use Rattle.layout.specs.Fields.{number as number_of};
 ghost use Rattle.field_machine.specs.Places.{Follows, turns};
