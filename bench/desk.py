@@ -5,20 +5,15 @@ shows the calls a second.
 Usage: bench/desk.py [PROGRAM]; PROGRAM is the built one, crates/timings/out/timings by default (`rt run` in its folder builds it).
 Wanted: with more seats at most twice the time a call of one seat.
 """
-from measure import best, program, times
+from measure import in_turn, program, times
 
 PROGRAM = program("timings")
 CALLS = 20_000
+SEATS = 1, 2, 4, 64
 
-
-def spent(seats):
-    """Seconds for the calls of so many seats."""
-    took = best([PROGRAM, "desk", str(CALLS), str(seats)])
-    assert took.said == f"{CALLS // seats * seats} {seats}\n", took
-    print(f"{seats} seats: {CALLS // seats * seats / took.elapsed:,.0f} calls a second")
-    return took.elapsed
-
-
-one = spent(1)
-for seats in 2, 4, 64:
-    print(f"  {times(spent(seats), one)} the time of one seat")
+all_took = in_turn([([PROGRAM, "desk", str(CALLS), str(seats)], None) for seats in SEATS])
+for seats, took in zip(SEATS, all_took):
+    calls = CALLS // seats * seats
+    assert took.said == f"{calls} {seats}\n", took
+    longer = times(took.elapsed, all_took[0].elapsed)
+    print(f"{seats} seats: {calls / took.elapsed:,.0f} calls a second, {longer} the time of one seat")

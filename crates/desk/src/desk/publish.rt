@@ -1,4 +1,5 @@
-//! Publish: the call is in the history, the shelf is at home, and the turn is passed on. Seats that sleep look again.
+//! Publish: the call is in the history, the shelf is at home, and the turn is passed on. Seats that sleep with a ticket look again; where
+//! there is none, one of those that sleep without a ticket does.
 ghost use Rattle.std.specs.Prelude.{◌≡◌, [], ◌∷◌, ◌++◌, Some};
 ghost use Rattle.shelf.specs.Calls.{brought_by, no_mark};
 ghost use Rattle.shelf.specs.Entries.{entry, IsLegalLog, StandsAfter};
@@ -62,7 +63,10 @@ impl<M: Medium> Desk<M> {
         let _ = answer;
         let shared = &self.table.shared;
         let served = shared.fetch_add::<Publish<E>>(token, SERVING, 1);
-        if shared.peek(TICKET) != served.wrapping_add(1) {
+        if shared.peek(TICKET) == served.wrapping_add(1) {
+            // Nobody has a ticket.
+            shared.wake_one(TICKET);
+        } else {
             shared.wake_all(SERVING);
         }
     }

@@ -25,17 +25,12 @@ use std::sync::Wait;
 use std::thread;
 use std::time::Duration;
 
-/// How often a seat looks before it sleeps until the turn is passed on.
+/// How often a seat sleeps at most while others have a ticket. Then it draws one all the same.
+const NAPS: u32 = 6;
+/// For how many milliseconds at most it sleeps each time.
+const NAP: u64 = 2;
+/// How often a seat with a ticket looks before it sleeps until the turn is passed on.
 const LOOKS: u32 = 50;
-/// How many turns before its own a seat begins to wait for each that is passed on.
-const NEAR: u64 = 3;
-
-// How many microseconds to sleep where this many turns are left, and this many were passed on in a sleep as long as the last: half the
-// time that they will take at that rate.
-fn next_nap(last: u64, left: u64, passed: u64) -> u64 {
-    let rate = 2 * passed.min(64) + 1;
-    (last.min(1000) * left.min(64) / rate).min(1000).max(20)
-}
 
 // The low 32 bits, which is what sleeping goes by.
 fn low_half(word: u64) -> u32 {
@@ -136,21 +131,15 @@ impl<M: Medium> Desk<M> {
         ensures table { token.new.table_id ≡ token.old.table_id }
         ensures turn { HasTurn token.old.me token.new.me }
     {
+        self.wait_to_draw(rt);
         let ticket = self.draw(token);
         let mut looks: u32 = 0;
-        let mut nap = 50;
-        let mut seen = ticket;
         for _ in rt.forever() {
             let serving = self.look(token);
             if serving == ticket {
                 return;
             }
-            let ahead = ticket.wrapping_sub(serving);
-            if ahead > NEAR {
-                nap = next_nap(nap, ahead - NEAR, serving.wrapping_sub(seen));
-                seen = serving;
-                self.doze(rt, nap);
-            } else if looks < LOOKS {
+            if looks < LOOKS {
                 looks += 1;
                 thread::yield_now();
             } else {
@@ -160,11 +149,19 @@ impl<M: Medium> Desk<M> {
         unreachable!()
     }
 
-    // Sleeps for that long, so that a turn that is passed on wakes those who are near it alone. Nobody is woken who sleeps on this word.
-    fn doze<R: Wait>(&self, rt: &R, micros: u64) {
+    // Sleeps while others have a ticket, so that the turn goes round among few seats, which are awake. Where the turn is passed on and nobody
+    // has a ticket, one that sleeps here is woken.
+    fn wait_to_draw<R: Wait>(&self, rt: &R) {
         let shared = &self.table.shared;
-        let until = Duration::from_micros(micros);
-        shared.park_timeout(rt, TICKET, low_half(shared.peek(TICKET)), until);
+        let nap = Duration::from_millis(NAP);
+        for _ in 0..NAPS {
+            let serving = shared.peek(SERVING);
+            let ticket = shared.peek(TICKET);
+            if ticket == serving {
+                return;
+            }
+            shared.park_timeout(rt, TICKET, low_half(ticket), nap);
+        }
     }
 
     /// One seat for both: it keeps what both have seen.
