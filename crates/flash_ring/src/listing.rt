@@ -23,7 +23,11 @@ fn copy_at(slots: &[Option<Held>], slot: u16) -> Rec
 }
 
 /// The records of the slots in a queue, in its order.
-pub fn list(alloc: Global, slots: &[Option<Held>], queue: &VecDeque<Found>) -> Result<RecList, NoMemory>
+pub fn list(
+    alloc: Global,
+    slots: &[Option<Held>],
+    queue: &VecDeque<Found>,
+) -> Result<RecList, NoMemory>
     requires { queue.now.items ≡ queue_of slots.now }
     ensures { IfOk result (λ records. records ≡ held_of slots.now) }
 {
