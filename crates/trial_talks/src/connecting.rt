@@ -150,6 +150,7 @@ pub fn connect<B: Bench, M: Medium>(
       faults = c.wire.faults;
     })) }
     ensures side { IfOk result (λ c. side.new ≡ record side.old { ring = side.new.ring }) }
+    ensures known { IfOk result (λ c. c.wire.known ≡ known) }
     ensures drained { IfOk result (λ c. length side.old.ring.slots ≤ 65535 → HasDrained line.drains (end_of c.result) side.new.ring) }
 {
     has_digits(line.imei);

@@ -1,4 +1,4 @@
-use Rattle.std.proofs.Common.{◌≡◌, ℕ, Option, ap, refl, subst}
+use Rattle.std.proofs.Common.{◌≡◌, ◌∙◌, ℕ, Option, ap, refl, subst}
 use Rattle.trial_wire.specs.WireLinks.{IsWire, WireState}
 use Rattle.trial_talks.specs.Rounds.{RoundsOver}
 use Rattle.trial_talks.proofs.Rounds.{new-rounded}
@@ -18,3 +18,6 @@ returns-clause-rounded g c earlier cover decided left =
     (subst (λ (z : Option ℕ × Option ℕ). IsWire (record { known = p.known; limit = z.0; most = z.1; up = p.up; given = p.given; down = p.down; heard = p.heard; shelf = p.shelf; session = p.session; ended = p.ended; faults = p.faults }))
     (λ i. (up_is i, down_is i)) c.carry-carried.ensures.wire)
     c.carry-carried.ensures.bytes (c.if-is_starved.ensures.ended refl) (c.if-is_starved.ensures.faults refl) decided left c.most_batches.ensures.one
+
+pub returns-clause-known : goal.returns-clause-known
+returns-clause-known g c = c.carry-carried.ensures.over.follows.known ∙ ap (λ (w : WireState). w.known) c.new-wire.ensures

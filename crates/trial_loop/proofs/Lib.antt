@@ -1,0 +1,15 @@
+pub mod Bounds
+pub mod Covers
+pub mod OneSides
+pub mod Connecting
+pub mod Late
+pub mod AllLines
+pub mod Placed
+pub mod Stepping
+pub mod Rounds
+pub mod EnrolledLines
+pub mod StartLemmas
+pub mod Archived
+pub mod Feeding
+pub mod Opened
+pub mod Finishing
