@@ -1,5 +1,6 @@
-//! The program: `fmb show FILE` and `fmb trial FILE`. It is a host over the file system and standard output, and ends with the status
-//! of `run`. The adapters tell nothing of what a file holds or what standard output took; they count their failures.
+//! The program: `fmb show FILE`, `fmb trial FILE`, and `fmb serve ADDRESS ARCHIVE [IMEI ..] --workers W --sessions K`. It is a host over
+//! the file system, TCP and standard output, and ends with the status of `run`. The adapters tell nothing of what a file holds, a
+//! connection carried or standard output took; they count their failures.
 #![tactic(auto)]
 
 mod file;
@@ -37,9 +38,9 @@ fn main(rt: HostRuntime) -> ExitCode {
     let alloc: Global = rt.alloc();
     let words = words_of(&rt);
     let out = Output::new(rt.stdout());
-    let mut host = System::new(rt, out);
+    let mut host = System::new(&rt, out);
     match words {
-        Ok(words) => ExitCode::from(run(alloc, words.as_slice(), &mut host)),
+        Ok(words) => ExitCode::from(run(&rt, alloc, words.as_slice(), &mut host)),
         Err(AllocError) => ExitCode::from(give_up(&mut host)),
     }
 }

@@ -1,20 +1,36 @@
 -- What holds where the words ask for a command, or for none (this project's own).
-use Rattle.std.specs.Prelude.{◌≡◌, ◌⊎◌, ℕ, List, Option, None, Some, ⊤, codes}
+use Rattle.std.specs.Prelude.{◌≡◌, ◌⊎◌, ℕ, List, [], ◌∷◌, Option, None, Some, ⊤, codes}
 use Rattle.fmb_host.specs.Host.{HostView}
-use Rattle.fmb_words.specs.Values.{WordsValue, show, trial}
+use Rattle.fmb_words.specs.Values.{ServeValue, WordsValue, serve, show, trial}
+use Rattle.session_core.specs.declared.known.Known.{Known}
+use Rattle.session_core.specs.declared.known.Known.TheVariants.{All, Listed}
 use Rattle.fmb_io.specs.Printed.{Prints}
 
 -- the words ask to show a file, and this holds of its name
 abbrev pub IfShow : Option WordsValue → (List ℕ → Type 0) → Type 0
 IfShow (Some (show file)) P = P file
 IfShow (Some (trial file)) P = ⊤
+IfShow (Some (serve asked)) P = ⊤
 IfShow None P = ⊤
 
 -- the words ask for a trial of a file, and this holds of its name
 abbrev pub IfTrial : Option WordsValue → (List ℕ → Type 0) → Type 0
 IfTrial (Some (trial file)) P = P file
 IfTrial (Some (show file)) P = ⊤
+IfTrial (Some (serve asked)) P = ⊤
 IfTrial None P = ⊤
+
+-- the words ask to serve an archive, and this holds of what they say
+abbrev pub IfServe : Option WordsValue → (ServeValue → Type 0) → Type 0
+IfServe (Some (serve asked)) P = P asked
+IfServe (Some (show file)) P = ⊤
+IfServe (Some (trial file)) P = ⊤
+IfServe None P = ⊤
+
+-- the devices that a server knows: those that it was asked to, or all where there were none
+abbrev pub known_of : List ℕ → Known
+known_of [] = All
+known_of (imei ∷ imeis) = Listed (imei ∷ imeis)
 
 -- Memory ran out while the words were read: 9, with its line printed, and nothing else was done.
 pub record RanOut (status : ℕ) (before after : HostView) : Type 0 where

@@ -1,17 +1,23 @@
 ghost use Rattle.std.specs.Prelude.{◌≡◌, ◌⊎◌, None, false, map, string_bytes};
 ghost use Rattle.fmb_host.specs.Host.{AreSmall};
-ghost use Rattle.fmb_run.specs.Asked.{IfShow, IfTrial, RanOut, RefusesWords};
+ghost use Rattle.fmb_run.specs.Asked.{IfServe, IfShow, IfTrial, RanOut, RefusesWords, known_of};
 ghost use Rattle.fmb_run.specs.Show.{RanShow, ShowRefuses, ShowShows};
 ghost use Rattle.fmb_run.specs.Trial.{RanTrial, TrialPlays, TrialRefuses};
+ghost use Rattle.fmb_serve.specs.Serve.{RanServe, ServeRefuses, ServeServes};
 ghost use Rattle.fmb_words.specs.PlainWords.{names_command};
 ghost use Rattle.fmb_words.specs.Words.{words_of};
+ghost use Rattle.session_core.specs.Knowing.{knows};
 
 use crate::judging::judge;
+use crate::serving::serve_asked;
 use crate::showing::run_show;
+use doors::Door;
 use fmb_host::Host;
 use fmb_io::{HOST_FAULT, Missing, REFUSED_WORDS, SOURCE_FAULT, fetch, give_up, say};
 use fmb_words::{Words, WordsFault, read_words};
 use std::alloc::Global;
+use std::sync::Wait;
+use std::thread::Threads;
 
 /// Plays the text that the host opens by this name as a trial, and prints its report, full or brief. Returns the status.
 pub fn run_trial<H: Host>(alloc: Global, host: &mut H, name: &str, brief: bool) -> u8
@@ -50,11 +56,21 @@ fn show_file<H: Host>(alloc: Global, host: &mut H, name: &str) -> u8
     status
 }
 
-/// Does what the words after the program's name ask for, which are `show` or `trial` and the name of a file, and returns the
-/// status. `show` changes nothing that the host keeps.
-pub fn run<H: Host>(alloc: Global, words: &[String], host: &mut H) -> u8
+/// Does what the words after the program's name ask for: `show` or `trial` and the name of a file, or `serve` with an address, the name
+/// of an archive, the IMEIs that it knows, its workers and sessions. Returns the status. `show` changes nothing that the host keeps.
+/// Only `serve` may wait.
+pub fn run<R: Threads + Wait + Sync, H: Host>(
+    rt: &R,
+    alloc: Global,
+    words: &[String],
+    host: &mut H,
+) -> u8
+where
+    H::File: Send,
+    H::Gate: Send,
+    <H::Gate as Door>::L: Send,
     requires { AreSmall (H.view host.old).counts }
-    ensures among { (result ≡ 0) ⊎ (result ≡ 2) ⊎ (result ≡ 3) ⊎ (result ≡ 4) ⊎ (result ≡ 5) ⊎ (result ≡ 7) ⊎ (result ≡ 9) }
+    ensures among { (result ≡ 0) ⊎ (result ≡ 2) ⊎ (result ≡ 3) ⊎ (result ≡ 4) ⊎ (result ≡ 5) ⊎ (result ≡ 6) ⊎ (result ≡ 7) ⊎ (result ≡ 8) ⊎ (result ≡ 9) }
 
     // a trial: each status with its cause, unless memory ran out while the words were read
     ensures trial { IfTrial (words_of (map string_bytes words.now)) (λ file. RanTrial file false result (H.view host.old) (H.view host.new) ⊎ RanOut result (H.view host.old) (H.view host.new)) }
@@ -66,6 +82,11 @@ pub fn run<H: Host>(alloc: Global, words: &[String], host: &mut H) -> u8
     ensures show_refuses { IfShow (words_of (map string_bytes words.now)) (λ file. ShowRefuses result (H.view host.old) (H.view host.new)) }
     ensures show_shows { IfShow (words_of (map string_bytes words.now)) (λ file. ShowShows result (H.view host.old) (H.view host.new)) }
 
+    // a server, in the same way
+    ensures serve { IfServe (words_of (map string_bytes words.now)) (λ asked. RanServe H.Gate.L.state H.Gate.L.follows (knows (known_of asked.devices)) asked.workers asked.sessions result (H.view host.old) (H.view host.new) ⊎ RanOut result (H.view host.old) (H.view host.new)) }
+    ensures serve_refuses { IfServe (words_of (map string_bytes words.now)) (λ asked. ServeRefuses result (H.view host.old) (H.view host.new)) }
+    ensures serve_serves { IfServe (words_of (map string_bytes words.now)) (λ asked. ServeServes result (H.view host.old) (H.view host.new)) }
+
     // words that ask for nothing
     ensures refused_words { words_of (map string_bytes words.now) ≡ None → RefusesWords result (H.view host.old) (H.view host.new) }
     ensures words { result ≡ 2 → words_of (map string_bytes words.now) ≡ None }
@@ -74,6 +95,7 @@ pub fn run<H: Host>(alloc: Global, words: &[String], host: &mut H) -> u8
     match read_words(alloc, words) {
         Ok(Words::Show { file }) => show_file(alloc, host, file),
         Ok(Words::Trial { file }) => run_trial(alloc, host, file, false),
+        Ok(Words::Serve(words)) => serve_asked(rt, alloc, host, &words),
         Err(WordsFault::Refused) => {
             say(host, b"refused words\n");
             REFUSED_WORDS

@@ -5,6 +5,8 @@ use crate::{run, run_trial};
 use avl_values::NoMemory;
 use fmb_host::{Host, MemoryHost};
 use std::alloc::Global;
+use std::sync::Wait;
+use std::thread::Threads;
 use text_streams::{MemorySink, MemorySource};
 use trial_model::{DeviceEnd, Outcome, ServerEnd};
 
@@ -303,15 +305,21 @@ fn answer_of(alloc: Global, status: u8, host: &MemoryHost) -> Result<Answer, NoM
     })
 }
 
-fn run_on(alloc: Global, line: &str, mut host: MemoryHost) -> Result<Answer, NoMemory>
+fn run_on<R: Threads + Wait + Sync>(
+    rt: &R,
+    alloc: Global,
+    line: &str,
+    mut host: MemoryHost,
+) -> Result<Answer, NoMemory>
     requires { AreSmall host.counts }
 {
     let words = words_of(alloc, line)?;
-    let status = run(alloc, words.as_slice(), &mut host);
+    let status = run(rt, alloc, words.as_slice(), &mut host);
     answer_of(alloc, status, &host)
 }
 
-fn run_with(
+fn run_with<R: Threads + Wait + Sync>(
+    rt: &R,
     alloc: Global,
     opens: &[u64],
     reads: &[u64],
@@ -319,10 +327,11 @@ fn run_with(
     room: usize,
 ) -> Result<Answer, NoMemory> {
     let host = host_of(alloc, first_round(), opens, reads, writes, room)?;
-    run_on(alloc, "trial first_round.fmb", host)
+    run_on(rt, alloc, "trial first_round.fmb", host)
 }
 
-fn show_with(
+fn show_with<R: Threads + Wait + Sync>(
+    rt: &R,
     alloc: Global,
     capture: &str,
     reads: &[u64],
@@ -330,12 +339,17 @@ fn show_with(
     room: usize,
 ) -> Result<Answer, NoMemory> {
     let host = host_of(alloc, capture, &[], reads, writes, room)?;
-    run_on(alloc, "show capture", host)
+    run_on(rt, alloc, "show capture", host)
 }
 
-fn run_line(alloc: Global, line: &str, script: &str) -> Result<Answer, NoMemory> {
+fn run_line<R: Threads + Wait + Sync>(
+    rt: &R,
+    alloc: Global,
+    line: &str,
+    script: &str,
+) -> Result<Answer, NoMemory> {
     let host = host_of(alloc, script, &[], &[], &[], 1_000)?;
-    run_on(alloc, line, host)
+    run_on(rt, alloc, line, host)
 }
 
 fn run_brief(alloc: Global) -> Result<Answer, NoMemory> {
@@ -364,7 +378,7 @@ fn each_failing_call_has_its_status(rt: HostRuntime) {
         (none, second, first, 1_000, 4, ""),
     ];
     for (opens, reads, writes, room, status, printed) in cases {
-        let answer = run_with(rt.alloc(), opens, reads, writes, room).expect(&rt, "memory");
+        let answer = run_with(&rt, rt.alloc(), opens, reads, writes, room).expect(&rt, "memory");
         assert_eq!(rt; answer.status, status);
         assert_eq!(rt; answer.printed.as_slice(), printed.as_bytes());
         assert_eq!(rt; answer.is_kept, status == 0 || status == 5);
@@ -390,9 +404,15 @@ fn scripts_and_words_are_answered_as_written_down(rt: HostRuntime) {
         ("sho", first_round(), 2, "refused words\n"),
         ("trial", first_round(), 2, "refused words\n"),
         ("trial first second", first_round(), 2, "refused words\n"),
+        (
+            "serve address archive --workers 1",
+            first_round(),
+            2,
+            "refused words\n",
+        ),
     ];
     for (line, script, status, printed) in cases {
-        let answer = run_line(rt.alloc(), line, script).expect(&rt, "memory");
+        let answer = run_line(&rt, rt.alloc(), line, script).expect(&rt, "memory");
         assert_eq!(rt; answer.status, status, "{line}");
         assert_eq!(rt; answer.printed.as_slice(), printed.as_bytes());
     }
@@ -473,7 +493,7 @@ fn captures_are_shown_as_written_down(rt: HostRuntime) {
         ("up 0", 3, "refused line 1 BadHex\n"),
     ];
     for (capture, status, printed) in cases {
-        let answer = run_line(rt.alloc(), "show capture", capture).expect(&rt, "memory");
+        let answer = run_line(&rt, rt.alloc(), "show capture", capture).expect(&rt, "memory");
         assert_eq!(rt; answer.status, status, "{capture}");
         assert_eq!(rt; answer.printed.as_slice(), printed.as_bytes());
         assert!(rt; !answer.is_kept, "show keeps nothing");
@@ -493,7 +513,7 @@ fn fault_of_a_capture_decides_before_the_sink(rt: HostRuntime) {
         (one_record(), first, first, 1_000, 4, ""),
     ];
     for (capture, reads, writes, room, status, printed) in cases {
-        let answer = show_with(rt.alloc(), capture, reads, writes, room).expect(&rt, "memory");
+        let answer = show_with(&rt, rt.alloc(), capture, reads, writes, room).expect(&rt, "memory");
         assert_eq!(rt; answer.status, status);
         assert_eq!(rt; answer.printed.as_slice(), printed.as_bytes());
     }

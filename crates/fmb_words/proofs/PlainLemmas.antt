@@ -5,7 +5,7 @@ use Rattle.clap.specs.Lexer.{short_of, strip_byte}
 use Rattle.clap.specs.Words.{Text, fault_of, first_of, is_simple, is_simple_and_free, matches_of}
 use Rattle.clap.specs.declared.error.kind.ErrorKind.TheVariants.{UnknownArgument, MissingRequiredArgument}
 use Rattle.clap.proofs.OnLiterals.{clap_on_literals}
-use Rattle.fmb_words.specs.FileCommand.{file_app}
+use Rattle.fmb_words.specs.Commands.{file_app, serve_app}
 use Rattle.fmb_words.specs.PlainWords.{IsPlainWord}
 
 pub no_hyphen : (w : Text) → IsPlainWord w → strip_byte 45 w ≡ None
@@ -63,3 +63,32 @@ later_help_refused name command w rest h = rw (no_hyphen w h, no_dashes w h, no_
 pub later_short_help_refused : (name command w : Text) (rest : List Text) → IsPlainWord w → fault_of (file_app name) (command ∷ w ∷ codes "-h" ∷ rest) ≡ UnknownArgument ∷ []
 unfolding file_app clap_on_literals
 later_short_help_refused name command w rest h = rw (no_hyphen w h, no_dashes w h, no_short w h) refl
+
+-- the same of the words of `serve`
+pub serve_is_plain : is_simple serve_app ≡ true
+unfolding serve_app clap_on_literals
+serve_is_plain = refl
+
+pub serve_is_free : is_simple_and_free serve_app ≡ true
+unfolding serve_app clap_on_literals
+serve_is_free = refl
+
+pub serve_missing_refused : (command : Text) → fault_of serve_app (command ∷ []) ≡ MissingRequiredArgument ∷ []
+unfolding serve_app clap_on_literals
+serve_missing_refused command = refl
+
+pub serve_help_refused : (command : Text) (rest : List Text) → fault_of serve_app (command ∷ codes "--help" ∷ rest) ≡ UnknownArgument ∷ []
+unfolding serve_app clap_on_literals
+serve_help_refused command rest = refl
+
+pub serve_short_help_refused : (command : Text) (rest : List Text) → fault_of serve_app (command ∷ codes "-h" ∷ rest) ≡ UnknownArgument ∷ []
+unfolding serve_app clap_on_literals
+serve_short_help_refused command rest = refl
+
+pub serve_later_help_refused : (command w : Text) (rest : List Text) → IsPlainWord w → fault_of serve_app (command ∷ w ∷ codes "--help" ∷ rest) ≡ UnknownArgument ∷ []
+unfolding serve_app clap_on_literals
+serve_later_help_refused command w rest h = rw (no_hyphen w h, no_dashes w h, no_short w h) refl
+
+pub serve_later_short_help_refused : (command w : Text) (rest : List Text) → IsPlainWord w → fault_of serve_app (command ∷ w ∷ codes "-h" ∷ rest) ≡ UnknownArgument ∷ []
+unfolding serve_app clap_on_literals
+serve_later_short_help_refused command w rest h = rw (no_hyphen w h, no_dashes w h, no_short w h) refl

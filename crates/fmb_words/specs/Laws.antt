@@ -1,10 +1,10 @@
 -- The laws of lists of words.
-use Rattle.std.specs.Prelude.{◌≡◌, ◌⊎◌, ℕ, false, List, [], ◌∷◌, Some, None, codes}
-use Rattle.fmb_words.specs.PlainWords.{IsPlainWord, names_command}
-use Rattle.fmb_words.specs.Values.{show, trial}
-use Rattle.fmb_words.specs.Words.{words_of}
+use Rattle.std.specs.Prelude.{◌≡◌, ◌⊎◌, ℕ, false, List, [], ◌∷◌, Some, None, option_map, codes}
+use Rattle.fmb_words.specs.PlainWords.{IsPlainWord, IsServeForm, names_command}
+use Rattle.fmb_words.specs.Values.{serve, show, trial}
+use Rattle.fmb_words.specs.Words.{serve_asked, words_of}
 
--- A command and a plain word ask for that command with that file.
+-- A command of one file and a plain word ask for that command with that file.
 abbrev pub PlainFileIsTaken : Type 0
 PlainFileIsTaken = (file : List ℕ) → IsPlainWord file
     → (words_of (codes "show" ∷ file ∷ []) ≡ Some (show file)) × (words_of (codes "trial" ∷ file ∷ []) ≡ Some (trial file))
@@ -17,11 +17,19 @@ OtherCommandIsRefused = (words : List (List ℕ)) → names_command words ≡ fa
 abbrev pub NoFileIsRefused : Type 0
 NoFileIsRefused = (word : List ℕ) → words_of (word ∷ []) ≡ None
 
--- Two files are refused, whatever follows them.
+-- Two files are refused of a command of one, whatever follows them.
 abbrev pub SecondFileIsRefused : Type 0
-SecondFileIsRefused = (word file second : List ℕ) (rest : List (List ℕ)) → IsPlainWord file → IsPlainWord second → words_of (word ∷ file ∷ second ∷ rest) ≡ None
+SecondFileIsRefused = (word file second : List ℕ) (rest : List (List ℕ)) → (word ≡ codes "show") ⊎ (word ≡ codes "trial")
+    → IsPlainWord file → IsPlainWord second → words_of (word ∷ file ∷ second ∷ rest) ≡ None
 
--- Help isn't given, neither in place of a file nor after it.
+-- Help isn't given, neither in place of a first word nor after it.
 abbrev pub HelpIsRefused : Type 0
 HelpIsRefused = (word file help : List ℕ) (rest : List (List ℕ)) → IsPlainWord file → (help ≡ codes "--help") ⊎ (help ≡ codes "-h")
     → (words_of (word ∷ help ∷ rest) ≡ None) × (words_of (word ∷ file ∷ help ∷ rest) ≡ None)
+
+-- `serve` with an address, an archive, no or more IMEIs and its two options asks for just that, and is refused where a number or an IMEI
+-- isn't one.
+abbrev pub PlainServeIsRead : Type 0
+PlainServeIsRead = (words : List (List ℕ)) (address archive : List ℕ) (imeis : List (List ℕ)) (workers sessions : List ℕ)
+    → IsServeForm words address archive imeis workers sessions
+    → words_of (codes "serve" ∷ words) ≡ option_map serve (serve_asked address archive imeis workers sessions)

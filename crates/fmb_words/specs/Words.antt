@@ -1,23 +1,47 @@
 -- What a list of words says: the first names the command, and clap reads the rest (this project's own).
-use Rattle.std.specs.Prelude.{List, [], ◌∷◌, Option, None, option_map, if◌then◌else◌, codes}
-use Rattle.std.specs.Str.{bytes_eq}
-use Rattle.clap.specs.Words.{Kinds, Text, fault_of, first_of, matches_of}
-use Rattle.fmb_words.specs.FileCommand.{file_app}
-use Rattle.fmb_words.specs.Values.{WordsValue, show, trial}
+use Rattle.std.specs.Prelude.{List, [], ◌∷◌, Option, None, option_and_then, option_map, unwrap_or, codes}
+use Rattle.clap.specs.Words.{Kinds, Row, Text, all_of, fault_of, first_of, matches_of}
+use Rattle.fmb_words.specs.Commands as of
+use Rattle.fmb_words.specs.Commands.{Command, command_of, file_app, serve_app}
+use Rattle.fmb_words.specs.Numbers.{imeis_of, number_within}
+use Rattle.fmb_words.specs.Values.{ServeValue, WordsValue, serve, show, trial}
 
 -- nothing, where there is a fault
-abbrev pub unless_fault : Kinds → Option Text → Option Text
-unless_fault [] file = file
-unless_fault (kind ∷ more) file = None
+abbrev pub unless_fault : {T : Type 0} → Kinds → Option T → Option T
+unless_fault [] read = read
+unless_fault (kind ∷ more) read = None
 
 -- the FILE that clap reads of a command's words, of which the first is the command's own; None where clap refuses them
 unfoldable pub file_of : Text → List Text → Option Text
 file_of name words = unless_fault (fault_of (file_app name) words) (first_of (codes "FILE") (matches_of (file_app name) words))
 
+-- what the words of `serve` ask for, one by one: 1 to 64 workers, 1 to 100,000 sessions each, and IMEIs; None where one isn't that
+unfoldable pub serve_asked : Text → Text → List Text → Text → Text → Option ServeValue
+serve_asked address archive imeis workers sessions =
+    option_and_then (λ ds. option_and_then (λ w. option_map (λ k. record { address = address; archive = archive; devices = ds; workers = w; sessions = k })
+    (number_within 1 100000 sessions)) (number_within 1 64 workers)) (imeis_of imeis)
+
+-- the same of words that are there or not
+abbrev pub serve_given : Option Text → Option Text → List Text → Option Text → Option Text → Option ServeValue
+serve_given address archive imeis workers sessions =
+    option_and_then (λ a. option_and_then (λ f. option_and_then (λ w. option_and_then (λ k. serve_asked a f imeis w k) sessions) workers) archive) address
+
+-- what clap's matches ask for
+unfoldable pub serve_read : List Row → Option ServeValue
+serve_read rows = serve_given (first_of (codes "ADDRESS") rows) (first_of (codes "ARCHIVE") rows) (unwrap_or (all_of (codes "IMEI") rows) [])
+    (first_of (codes "workers") rows) (first_of (codes "sessions") rows)
+
+-- what clap reads of the words of `serve`, of which the first is the command's own; None where clap refuses them
+unfoldable pub serve_of : List Text → Option ServeValue
+serve_of words = unless_fault (fault_of serve_app words) (serve_read (matches_of serve_app words))
+
+-- what a command's words ask for
+unfoldable pub asked_of : Command → List Text → Option WordsValue
+asked_of of.show words = option_map show (file_of (codes "show") words)
+asked_of of.trial words = option_map trial (file_of (codes "trial") words)
+asked_of of.serve words = option_map serve (serve_of words)
+
 -- what the words after the program's name ask for; None where they are refused
 unfoldable pub words_of : List Text → Option WordsValue
 words_of [] = None
-words_of (word ∷ rest) =
-    if bytes_eq word (codes "show") then option_map show (file_of (codes "show") (word ∷ rest))
-    else (if bytes_eq word (codes "trial") then option_map trial (file_of (codes "trial") (word ∷ rest))
-    else None)
+words_of (word ∷ rest) = option_and_then (λ command. asked_of command (word ∷ rest)) (command_of word)

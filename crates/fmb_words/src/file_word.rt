@@ -1,34 +1,13 @@
 //! The words of a command that has one argument, FILE.
-ghost use Rattle.std.specs.Prelude.{◌≡◌, ◌≤◌, Err, None, Some, [], IfOk, codes, false, is_some, map, string_bytes, true};
-ghost use Rattle.clap.specs.Facts.{least_values};
-ghost use Rattle.clap.specs.declared.builder.command.Command.TheViews.{out-Command as fields_of};
-ghost use Rattle.clap.specs.Words.{FailsBy, IsPlainArg, app_of, args_of, fault_of, first_of, first_value, found_of, groups_of, matches_of, rule_of};
-ghost use Rattle.fmb_words.specs.FileCommand.{bare_app, file_app, one_value as one_rule};
+ghost use Rattle.std.specs.Prelude.{◌≡◌, Err, None, Some, IfOk, codes, is_some, map, string_bytes, true};
+ghost use Rattle.clap.specs.Words.{FailsBy, fault_of, first_of, first_value, found_of, matches_of};
+ghost use Rattle.fmb_words.specs.Commands.{file_app};
 ghost use Rattle.fmb_words.specs.Words.{file_of};
 
+use crate::commands::{bare, one_value};
 use crate::fault::WordsFault;
-use clap::{Arg, ArgAction, ArgMatches, Command, Error};
+use clap::{ArgMatches, Error};
 use std::alloc::Global;
-
-fn bare<'a>(alloc: Global, name: &'a str) -> Command<'a>
-    ensures app { app_of result ≡ bare_app name.entry.now }
-    ensures empty { (args_of result ≡ []) × (groups_of result ≡ []) }
-    ensures plain { ((fields_of result).has_globals ≡ false) × ((fields_of result).subcommand_negates_reqs ≡ false) }
-{
-    Command::new(alloc, name)
-        .disable_help_flag(true)
-        .disable_version_flag(true)
-}
-
-fn one_value<'a>(alloc: Global, id: &'a str) -> Arg<'a>
-    ensures rule { rule_of result ≡ one_rule id.entry.now }
-    ensures local { result.global ≡ false }
-    ensures plain { IsPlainArg result × (result.val_delim ≡ None) × (result.num_vals ≡ None) }
-    ensures id { result.id ≡ id.entry }
-    ensures least { 1 ≤ least_values result }
-{
-    Arg::new(alloc, id).required(true).action(ArgAction::Set)
-}
 
 // What clap makes of the words of `NAME FILE`, of which the first is the command's own.
 fn file_matches<'a>(

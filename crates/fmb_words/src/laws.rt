@@ -1,5 +1,5 @@
 //! The laws of lists of words, each as the contract of a function that does nothing.
-ghost use Rattle.fmb_words.specs.Laws.{HelpIsRefused, NoFileIsRefused, OtherCommandIsRefused, PlainFileIsTaken, SecondFileIsRefused};
+ghost use Rattle.fmb_words.specs.Laws.{HelpIsRefused, NoFileIsRefused, OtherCommandIsRefused, PlainFileIsTaken, PlainServeIsRead, SecondFileIsRefused};
 
 /// `show W` and `trial W`, where W is neither empty nor begins with a hyphen, ask for that command with the file W.
 pub fn plain_file_is_taken()
@@ -16,7 +16,7 @@ pub fn no_file_is_refused()
     ensures { NoFileIsRefused }
 {}
 
-/// Two files are refused.
+/// `show` and `trial` with two files are refused.
 pub fn second_file_is_refused()
     ensures { SecondFileIsRefused }
 {}
@@ -24,4 +24,9 @@ pub fn second_file_is_refused()
 /// `--help` and `-h` are refused words.
 pub fn help_is_refused()
     ensures { HelpIsRefused }
+{}
+
+/// The words of `serve`, in the order that is written down, ask for just what they say, or are refused where a number or an IMEI isn't one.
+pub fn plain_serve_is_read()
+    ensures { PlainServeIsRead }
 {}

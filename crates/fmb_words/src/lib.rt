@@ -1,16 +1,20 @@
 //! The words that the program is started with: which command they name, and its arguments, by clap.
 #![tactic(auto)]
 
+mod commands;
 mod fault;
 mod file_word;
 mod laws;
+mod number;
+mod serve_words;
 mod words;
 
 pub use fault::WordsFault;
 pub use laws::{
     help_is_refused, no_file_is_refused, other_command_is_refused, plain_file_is_taken,
-    second_file_is_refused,
+    plain_serve_is_read, second_file_is_refused,
 };
+pub use serve_words::ServeWords;
 pub use words::{Words, read_words};
 
 #[cfg(test)]

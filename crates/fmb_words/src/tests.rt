@@ -1,4 +1,4 @@
-use crate::{Words, WordsFault, read_words};
+use crate::{ServeWords, Words, read_words};
 use std::alloc::{AllocError, Global};
 use std::test::Fail;
 
@@ -10,12 +10,25 @@ fn words_of(alloc: Global, list: &[&str]) -> Result<Vec<String>, AllocError> {
     Ok(words)
 }
 
-/// What is read of a list of words: the command's word and the file, or the fault's text.
+fn serve_text(alloc: Global, words: &ServeWords<'_>) -> Result<String, AllocError> {
+    let mut text = format!(in alloc;
+        "serve [{}] [{}] {} {}",
+        words.address, words.archive, words.workers, words.sessions
+    )?;
+    for imei in words.devices.iter() {
+        text.push_str(" ")?;
+        text.push_str(format!(in alloc; "{}", imei.number())?.as_str())?;
+    }
+    Ok(text)
+}
+
+/// What is read of a list of words: the command's word and its arguments, or the fault's text.
 fn read_of(alloc: Global, list: &[&str]) -> Result<String, AllocError> {
     let words = words_of(alloc, list)?;
     match read_words(alloc, words.as_slice()) {
         Ok(Words::Show { file }) => format!(in alloc; "show [{file}]"),
         Ok(Words::Trial { file }) => format!(in alloc; "trial [{file}]"),
+        Ok(Words::Serve(words)) => serve_text(alloc, &words),
         Err(fault) => format!(in alloc; "{fault}"),
     }
 }
@@ -37,6 +50,125 @@ fn reads_lists_of_words(rt: HostRuntime) -> Result<(), Fail> {
         (["trial", "f", "-x"].as_slice(), "refused words"),
         (["show", ""].as_slice(), "show []"),
         (["show", "--", "-x"].as_slice(), "show [-x]"),
+    ] {
+        let got = read_of(rt.alloc(), list)?;
+        assert_eq!(rt; got.as_str(), read);
+    }
+    Ok(())
+}
+
+#[test]
+fn reads_words_of_serve(rt: HostRuntime) -> Result<(), Fail> {
+    for (list, read) in [
+        (
+            [
+                "serve",
+                "a:1",
+                "f",
+                "--workers",
+                "64",
+                "--sessions",
+                "100000",
+            ]
+            .as_slice(),
+            "serve [a:1] [f] 64 100000",
+        ),
+        (
+            [
+                "serve",
+                "a:1",
+                "f",
+                "356307042441013",
+                "000000000000007",
+                "--sessions",
+                "2",
+                "--workers",
+                "1",
+            ]
+            .as_slice(),
+            "serve [a:1] [f] 1 2 356307042441013 7",
+        ),
+        (
+            ["serve", "a:1", "f", "--workers", "0", "--sessions", "1"].as_slice(),
+            "refused words",
+        ),
+        (
+            ["serve", "a:1", "f", "--workers", "65", "--sessions", "1"].as_slice(),
+            "refused words",
+        ),
+        (
+            [
+                "serve",
+                "a:1",
+                "f",
+                "--workers",
+                "1",
+                "--sessions",
+                "100001",
+            ]
+            .as_slice(),
+            "refused words",
+        ),
+        (
+            ["serve", "a:1", "f", "--workers", "+1", "--sessions", "1"].as_slice(),
+            "refused words",
+        ),
+        (
+            ["serve", "a:1", "f", "--workers", "01", "--sessions", "1"].as_slice(),
+            "refused words",
+        ),
+        (
+            ["serve", "a:1", "f", "--workers", "1"].as_slice(),
+            "refused words",
+        ),
+        (
+            [
+                "serve",
+                "a:1",
+                "f",
+                "--sessions",
+                "1",
+                "--workers",
+                "1",
+                "--workers",
+                "1",
+            ]
+            .as_slice(),
+            "refused words",
+        ),
+        (
+            ["serve", "a:1", "--workers", "1", "--sessions", "1"].as_slice(),
+            "refused words",
+        ),
+        (
+            [
+                "serve",
+                "a:1",
+                "f",
+                "35630704244101",
+                "--workers",
+                "1",
+                "--sessions",
+                "1",
+            ]
+            .as_slice(),
+            "refused words",
+        ),
+        (
+            [
+                "serve",
+                "a:1",
+                "f",
+                "35630704244101x",
+                "--workers",
+                "1",
+                "--sessions",
+                "1",
+            ]
+            .as_slice(),
+            "refused words",
+        ),
+        (["serve", "--help"].as_slice(), "refused words"),
     ] {
         let got = read_of(rt.alloc(), list)?;
         assert_eq!(rt; got.as_str(), read);

@@ -1,27 +1,31 @@
 ghost use Rattle.std.specs.Prelude.{◌≡◌, ◌≢◌, ◌↔◌, Err, IfOk, List, None, Some, [], ◌∷◌, codes, false, map, string_bytes, ℕ};
-ghost use Rattle.fmb_words.specs.PlainWords.{IsPlainWord, names_command};
-ghost use Rattle.fmb_words.specs.Values.{IsReadAs, show, trial, value_of};
-ghost use Rattle.fmb_words.specs.Words.{words_of};
+ghost use Rattle.fmb_words.specs.PlainWords.{IsPlainWord, IsServeForm, names_command};
+ghost use Rattle.fmb_words.specs.Values.{HasRanges, IsReadAs, ServeValue, serve, show, trial, value_of};
+ghost use Rattle.fmb_words.specs.Words.{serve_asked, words_of};
 
 use crate::fault::WordsFault;
 use crate::file_word::read_file;
+use crate::serve_words::{ServeWords, read_serve};
 use std::alloc::Global;
 
 /// A command line that was read.
-#[derive(Clone, Copy, Debug, PartialEq, Eq)]
+#[derive(Debug, Drop)]
 pub enum Words<'a> {
     /// Print what is in the capture of this name.
     Show { file: &'a str },
     /// Play the script of this name as a trial.
     Trial { file: &'a str },
+    /// Serve an archive at an address.
+    Serve(ServeWords<'a>),
 }
 
 // What the words ask for.
-#[tactic(auto, unfolding(crate::specs::Words::words_of))]
+#[tactic(auto, unfolding(crate::specs::Words::words_of, crate::specs::Words::asked_of))]
 fn command_of<'a>(alloc: Global, words: &'a [String]) -> Result<Words<'a>, WordsFault>
     ensures read { IfOk result (λ read. words_of (map string_bytes words.entry.now) ≡ Some (value_of read)) }
     ensures refused { result ≢ Err WordsFault.NoMemory → ((result ≡ Err WordsFault.Refused) ↔ (words_of (map string_bytes words.entry.now) ≡ None)) }
     ensures unknown { names_command (map string_bytes words.entry.now) ≡ false → result ≡ Err WordsFault.Refused }
+    ensures ranges { IfOk result HasRanges }
 {
     let Some(first) = words.first() else {
         return Err(WordsFault::Refused);
@@ -33,14 +37,16 @@ fn command_of<'a>(alloc: Global, words: &'a [String]) -> Result<Words<'a>, Words
         "trial" => Ok(Words::Trial {
             file: read_file(alloc, "trial", words)?,
         }),
+        "serve" => Ok(Words::Serve(read_serve(alloc, words)?)),
         _ => Err(WordsFault::Refused),
     }
 }
 
-/// Reads the words after the program's name: `show FILE` or `trial FILE`. The first word names the command, and clap
-/// reads the rest.
+/// Reads the words after the program's name: `show FILE`, `trial FILE`, or `serve ADDRESS ARCHIVE [IMEI ..] --workers W --sessions K`
+/// with 1 to 64 workers and 1 to 100,000 sessions. The first word names the command, and clap reads the rest.
 pub fn read_words<'a>(alloc: Global, words: &'a [String]) -> Result<Words<'a>, WordsFault>
     ensures read { IfOk result (λ read. words_of (map string_bytes words.entry.now) ≡ Some (value_of read)) }
+    ensures ranges { IfOk result HasRanges }
 
     // unless memory is wanting, words are refused exactly where they ask for nothing
     ensures refused { result ≢ Err WordsFault.NoMemory → ((result ≡ Err WordsFault.Refused) ↔ (words_of (map string_bytes words.entry.now) ≡ None)) }
@@ -50,6 +56,11 @@ pub fn read_words<'a>(alloc: Global, words: &'a [String]) -> Result<Words<'a>, W
     ensures plain { (file : List ℕ) → IsPlainWord file
         → (map string_bytes words.entry.now ≡ codes "show" ∷ file ∷ [] → IsReadAs (show file) result)
         × (map string_bytes words.entry.now ≡ codes "trial" ∷ file ∷ [] → IsReadAs (trial file) result) }
+
+    // and so are plain words of `serve` with numbers and IMEIs in them
+    ensures plain_serve { (rest : List (List ℕ)) (address archive : List ℕ) (imeis : List (List ℕ)) (workers sessions : List ℕ) (value : ServeValue)
+        → map string_bytes words.entry.now ≡ codes "serve" ∷ rest → IsServeForm rest address archive imeis workers sessions
+        → serve_asked address archive imeis workers sessions ≡ Some value → IsReadAs (serve value) result }
 {
     command_of(alloc, words)
 }

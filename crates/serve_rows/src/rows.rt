@@ -5,11 +5,10 @@ ghost use Rattle.fmb_host.specs.Memory.{gate_state};
 
 use doors::MemoryDoor;
 use fmb_host::{Host, MemoryHost};
-use fmb_serve::run_serve;
+use fmb_run::run;
 use hex::decode;
 use links::MemoryLink;
 use medium::MemoryMedium;
-use session_core::Known;
 use std::alloc::Global;
 use std::sync::Wait;
 use std::thread::Threads;
@@ -41,13 +40,13 @@ const THREE_RECORDS: &[&str] = &[
     "030000683b",
 ];
 
-/// What a server is asked for, and what comes of it: the archive's bytes in hex, the links of each worker's door with their streams in
-/// hex, each in parts, the sessions of each worker, the status and what is printed.
+/// What a server is asked for, and what comes of it: the words, the archive's bytes in hex, the links of each worker's door with their
+/// streams in hex, each in parts, the status and what is printed.
 #[derive(Clone, Copy)]
 struct Row<'a> {
+    words: &'a str,
     archive: &'a str,
     doors: &'a [&'a [&'a [&'a str]]],
-    sessions: u32,
     status: u8,
     printed: &'a str,
 }
@@ -106,23 +105,23 @@ fn host(alloc: Global, row: Row<'_>) -> Option<MemoryHost>
     Some(host)
 }
 
+fn words_of(alloc: Global, line: &str) -> Option<Vec<String>> {
+    let mut words = Vec::new(alloc);
+    for word in line.split_whitespace() {
+        words.push(String::from_str(alloc, word).ok()?).ok()?;
+    }
+    Some(words)
+}
+
 // Serves it, and gives the host back with the status.
-fn served<R: Threads + Wait + Sync>(rt: &R, alloc: Global, row: Row<'_>) -> Option<(MemoryHost, u8)>
-    requires some { 0 < row.sessions }
-    requires few { row.sessions ≤ 100000 }
-{
+fn served<R: Threads + Wait + Sync>(
+    rt: &R,
+    alloc: Global,
+    row: Row<'_>,
+) -> Option<(MemoryHost, u8)> {
     let mut host = host(alloc, row)?;
-    let workers = row.doors.len().max(1).min(64) as u32;
-    let status = run_serve(
-        rt,
-        alloc,
-        &mut host,
-        "address",
-        "archive",
-        &Known::All,
-        workers,
-        row.sessions,
-    );
+    let words = words_of(alloc, row.words)?;
+    let status = run(rt, alloc, words.as_slice(), &mut host);
     Some((host, status))
 }
 
@@ -130,51 +129,58 @@ fn served<R: Threads + Wait + Sync>(rt: &R, alloc: Global, row: Row<'_>) -> Opti
 fn served_as_written_down(rt: HostRuntime) {
     let rows = [
         Row {
+            words: "serve address archive --workers 1 --sessions 1",
             archive: "",
             doors: &[&[THREE_RECORDS]],
-            sessions: 1,
             status: 0,
             printed: "session 1 1 356307042441013 ended\narchive records 3 devices 1\n",
         },
         Row {
+            words: "serve address archive --workers 1 --sessions 1",
             archive: "30313233343536373839",
             doors: &[],
-            sessions: 1,
             status: 8,
             printed: "refused archive\n",
         },
         Row {
+            words: "serve address archive --workers 1 --sessions 2",
             archive: "",
             doors: &[&[&[LOGIN]]],
-            sessions: 2,
             status: 7,
             printed: "session 1 1 356307042441013 ended\narchive records 0 devices 0\n",
         },
         Row {
+            words: "serve address archive --workers 2 --sessions 1",
             archive: "",
             doors: &[&[&[LOGIN, CODEC_8]], &[&[LOGIN, CODEC_8]]],
-            sessions: 1,
             status: 0,
             printed: "session 1 1 356307042441013 ended\nsession 2 1 356307042441013 ended\narchive records 1 devices 1\n",
         },
         Row {
+            words: "serve address archive --workers 2 --sessions 1",
             archive: "",
             doors: &[&[&[LOGIN, CODEC_8]], &[&[OTHER_LOGIN, CODEC_8]]],
-            sessions: 1,
             status: 0,
             printed: "session 1 1 356307042441013 ended\nsession 2 1 352093081452251 ended\narchive records 2 devices 2\n",
         },
         Row {
+            words: "serve address archive 352093081452251 --sessions 2 --workers 1",
+            archive: "",
+            doors: &[&[&[LOGIN], &[OTHER_LOGIN, CODEC_8]]],
+            status: 0,
+            printed: "session 1 1 356307042441013 unknown\nsession 1 2 352093081452251 ended\narchive records 1 devices 1\n",
+        },
+        Row {
+            words: "serve address archive --workers 1 --sessions 1",
             archive: "",
             doors: &[&[&[]]],
-            sessions: 1,
             status: 0,
             printed: "session 1 1 - ended\narchive records 0 devices 0\n",
         },
         Row {
+            words: "serve address archive --workers 1 --sessions 1",
             archive: "",
             doors: &[],
-            sessions: 1,
             status: 7,
             printed: "host fault\n",
         },

@@ -2,7 +2,7 @@ use Rattle.std.proofs.Common.{◌≡◌, ◌∙◌, List, map, string_bytes, cod
 use Rattle.std.proofs.lemmas.Result.{IfOk-weaker}
 use Rattle.clap.proofs.CallerLemmas.{one_required_value}
 use Rattle.clap.specs.Words.{Rule, Text, app_of, first_value, found_of, with_rule}
-use Rattle.fmb_words.specs.FileCommand.{bare_app, file_app, one_value}
+use Rattle.fmb_words.specs.Commands.{bare_app, file_app, one_value}
 use Rattle.fmb_words.proofs.Parsing.{kinds_are, own_name, value_is}
 use Rattle.fmb_words.proofs.PlainLemmas.{file_is_free, file_is_plain}
 use Rattle.fmb_words.proofs.file_word.file_matches.Goals as goal

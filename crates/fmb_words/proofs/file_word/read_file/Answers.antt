@@ -1,10 +1,10 @@
 use Rattle.std.proofs.Common.{◌∙◌, option_map, sym, ap}
-use Rattle.fmb_words.proofs.WordsLemmas.{error_refused, sound_file}
+use Rattle.fmb_words.proofs.WordsLemmas.{error_refused, faulty_none, sound_file}
 use Rattle.fmb_words.proofs.file_word.read_file.Goals as goal
 
 pub returns-in_err-matches-clause-refused : goal.returns-in_err-matches-clause-refused
 returns-in_err-matches-clause-refused c =
-    error_refused _ _ c.in_err-matches.field-0.0 c.from_residual.result c.in_err-matches.ensures.kinds c.from_residual.ensures.1
+    λ is. faulty_none _ _ (error_refused _ c.in_err-matches.field-0.0 c.from_residual.result c.in_err-matches.ensures.kinds c.from_residual.ensures.1 is)
 
 pub returns-clause-read : goal.returns-clause-read
 returns-clause-read c =
