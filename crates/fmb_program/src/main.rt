@@ -11,10 +11,11 @@ mod tests;
 
 use crate::output::Output;
 use crate::system::System;
-use fmb_run::{give_up, run};
+use fmb_run::{NO_MEMORY, give_up, run};
 use std::alloc::{AllocError, Global};
 use std::process::ExitCode;
 use std::{env, io};
+use text_streams::Sink;
 
 /// The words after the program's name. Words that are no UTF-8 are none that the program knows: there are none then.
 fn words_of(rt: &HostRuntime) -> Result<Vec<String>, AllocError> {
@@ -37,8 +38,12 @@ fn words_of(rt: &HostRuntime) -> Result<Vec<String>, AllocError> {
 fn main(rt: HostRuntime) -> ExitCode {
     let alloc: Global = rt.alloc();
     let words = words_of(&rt);
-    let out = Output::new(rt.stdout());
-    let mut host = System::new(&rt, out);
+    let mut out = Output::new(rt.stdout());
+    let Ok(own) = rt.clone() else {
+        let _ = out.write(b"no memory\n");
+        return ExitCode::from(NO_MEMORY);
+    };
+    let mut host = System::new(own, out);
     match words {
         Ok(words) => ExitCode::from(run(&rt, alloc, words.as_slice(), &mut host)),
         Err(AllocError) => ExitCode::from(give_up(&mut host)),

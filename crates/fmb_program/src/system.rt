@@ -21,17 +21,17 @@ const SILENCE_SECONDS: u64 = 60;
 
 /// The host of the program: texts and media are files, links and doors are TCP, benches are in memory, and the sink is standard output.
 #[derive(Drop)]
-pub struct System<'a, W> {
-    rt: &'a HostRuntime,
+pub struct System<W> {
+    rt: HostRuntime,
     out: Output<W>,
     pub counts: Counts,
     kept: Option<Outcome>,
     listener: Option<TcpListener>,
 }
 
-impl<'a, W: Write + Drop> System<'a, W> {
+impl<W: Write + Drop> System<W> {
     /// A host that has not failed yet, keeps no outcome and listens nowhere.
-    pub fn new(rt: &'a HostRuntime, out: Output<W>) -> System<'a, W>
+    pub fn new(rt: HostRuntime, out: Output<W>) -> System<W>
         ensures { AreSmall result.counts }
     {
         System {
@@ -68,7 +68,7 @@ fn share(kept: &Option<TcpListener>) -> io::Result<TcpListener> {
     }
 }
 
-impl<'a, W: Write + Drop> Host for System<'a, W> {
+impl<W: Write + Drop> Host for System<W> {
     type Text = FileText<fs::File>;
 
     type Out = Output<W>;
@@ -99,7 +99,7 @@ impl<'a, W: Write + Drop> Host for System<'a, W> {
     }
 
     fn open_text(&mut self, name: &str) -> Result<FileText<fs::File>, Failed> {
-        match fs::File::open(self.rt, name) {
+        match fs::File::open(&self.rt, name) {
             Ok(file) => Ok(FileText::new(file)),
             Err(_) => {
                 self.counts.host += 1;
@@ -115,7 +115,7 @@ impl<'a, W: Write + Drop> Host for System<'a, W> {
     }
 
     fn open_medium(&mut self, name: &str) -> Result<FileMedium, Failed> {
-        match FileMedium::open(self.rt, name) {
+        match FileMedium::open(&self.rt, name) {
             Ok(medium) => Ok(medium),
             Err(_) => {
                 self.counts.host += 1;
@@ -131,7 +131,7 @@ impl<'a, W: Write + Drop> Host for System<'a, W> {
     }
 
     fn dial(&mut self, address: &str) -> Result<StreamLink<TcpStream>, Failed> {
-        match TcpStream::connect(self.rt, address) {
+        match TcpStream::connect(&self.rt, address) {
             Ok(stream) => {
                 prepare(&stream, Duration::from_secs(SILENCE_SECONDS));
                 Ok(StreamLink::new(stream, None))
@@ -153,7 +153,7 @@ impl<'a, W: Write + Drop> Host for System<'a, W> {
         worker: u32,
     ) -> Result<StreamDoor<TcpListener, Stderr>, Failed> {
         let listener = if worker == 1 {
-            listen(self.rt, &mut self.listener, address)
+            listen(&self.rt, &mut self.listener, address)
         } else {
             share(&self.listener)
         };

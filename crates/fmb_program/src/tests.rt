@@ -28,7 +28,7 @@ fn adapters_count_their_failures(rt: HostRuntime) {
 #[test]
 fn system_counts_files_that_fail(rt: HostRuntime) {
     let out = Output::new(rt.stdout());
-    let mut host = System::new(&rt, out);
+    let mut host = System::new(rt.clone().expect(&rt, "a runtime"), out);
     assert!(rt; host.open_text("no such file").is_err(), "it isn't there");
     let mut folder = host.open_text(".").expect(&rt, "a folder can be opened");
     assert!(rt; folder.read(&mut [0u8; 4]).is_err(), "and not be read");
