@@ -1,7 +1,7 @@
 -- What holds where the words ask for a command, or for none (this project's own).
 use Rattle.std.specs.Prelude.{◌≡◌, ◌⊎◌, ℕ, List, [], ◌∷◌, Option, None, Some, ⊤, codes}
 use Rattle.fmb_host.specs.Host.{HostView}
-use Rattle.fmb_words.specs.Values.{ServeValue, WordsValue, serve, show, trial}
+use Rattle.fmb_words.specs.Values.{DriveValue, ServeValue, WordsValue, drive, serve, show, trial}
 use Rattle.session_core.specs.declared.known.Known.{Known}
 use Rattle.session_core.specs.declared.known.Known.TheVariants.{All, Listed}
 use Rattle.fmb_io.specs.Printed.{Prints}
@@ -11,6 +11,7 @@ abbrev pub IfShow : Option WordsValue → (List ℕ → Type 0) → Type 0
 IfShow (Some (show file)) P = P file
 IfShow (Some (trial file)) P = ⊤
 IfShow (Some (serve asked)) P = ⊤
+IfShow (Some (drive asked)) P = ⊤
 IfShow None P = ⊤
 
 -- the words ask for a trial of a file, and this holds of its name
@@ -18,6 +19,7 @@ abbrev pub IfTrial : Option WordsValue → (List ℕ → Type 0) → Type 0
 IfTrial (Some (trial file)) P = P file
 IfTrial (Some (show file)) P = ⊤
 IfTrial (Some (serve asked)) P = ⊤
+IfTrial (Some (drive asked)) P = ⊤
 IfTrial None P = ⊤
 
 -- the words ask to serve an archive, and this holds of what they say
@@ -25,7 +27,16 @@ abbrev pub IfServe : Option WordsValue → (ServeValue → Type 0) → Type 0
 IfServe (Some (serve asked)) P = P asked
 IfServe (Some (show file)) P = ⊤
 IfServe (Some (trial file)) P = ⊤
+IfServe (Some (drive asked)) P = ⊤
 IfServe None P = ⊤
+
+-- the words ask to drive a device, and this holds of what they say
+abbrev pub IfDrive : Option WordsValue → (DriveValue → Type 0) → Type 0
+IfDrive (Some (drive asked)) P = P asked
+IfDrive (Some (show file)) P = ⊤
+IfDrive (Some (trial file)) P = ⊤
+IfDrive (Some (serve asked)) P = ⊤
+IfDrive None P = ⊤
 
 -- the devices that a server knows: those that it was asked to, or all where there were none
 abbrev pub known_of : List ℕ → Known

@@ -1,8 +1,9 @@
 ghost use Rattle.std.specs.Prelude.{◌≡◌, ◌⊎◌, None, false, map, string_bytes};
 ghost use Rattle.fmb_host.specs.Host.{AreSmall};
-ghost use Rattle.fmb_run.specs.Asked.{IfServe, IfShow, IfTrial, RanOut, RefusesWords, known_of};
+ghost use Rattle.fmb_run.specs.Asked.{IfDrive, IfServe, IfShow, IfTrial, RanOut, RefusesWords, known_of};
 ghost use Rattle.fmb_run.specs.Show.{RanShow, ShowRefuses, ShowShows};
 ghost use Rattle.fmb_run.specs.Trial.{RanTrial, TrialPlays, TrialRefuses};
+ghost use Rattle.fmb_drive.specs.Drive.{DriveDrives, DriveRefuses, DriveSpares, RanDrive};
 ghost use Rattle.fmb_serve.specs.Serve.{RanServe, ServeRefuses, ServeServes};
 ghost use Rattle.fmb_words.specs.PlainWords.{names_command};
 ghost use Rattle.fmb_words.specs.Words.{words_of};
@@ -12,6 +13,7 @@ use crate::judging::judge;
 use crate::serving::serve_asked;
 use crate::showing::run_show;
 use doors::Door;
+use fmb_drive::run_drive;
 use fmb_host::Host;
 use fmb_io::{HOST_FAULT, Missing, REFUSED_WORDS, SOURCE_FAULT, fetch, give_up, say};
 use fmb_words::{Words, WordsFault, read_words};
@@ -56,9 +58,9 @@ fn show_file<H: Host>(alloc: Global, host: &mut H, name: &str) -> u8
     status
 }
 
-/// Does what the words after the program's name ask for: `show` or `trial` and the name of a file, or `serve` with an address, the name
-/// of an archive, the IMEIs that it knows, its workers and sessions. Returns the status. `show` changes nothing that the host keeps.
-/// Only `serve` may wait.
+/// Does what the words after the program's name ask for: `show` or `trial` and the name of a file, `serve` with an address, the name of an
+/// archive, the IMEIs that it knows, its workers and sessions, or `drive` with an address and the names of a flash and a script. Returns
+/// the status. `show` changes nothing that the host keeps. Only `serve` may wait.
 pub fn run<R: Threads + Wait + Sync, H: Host>(
     rt: &R,
     alloc: Global,
@@ -87,6 +89,12 @@ where
     ensures serve_refuses { IfServe (words_of (map string_bytes words.now)) (λ asked. ServeRefuses result (H.view host.old) (H.view host.new)) }
     ensures serve_serves { IfServe (words_of (map string_bytes words.now)) (λ asked. ServeServes result (H.view host.old) (H.view host.new)) }
 
+    // a device that is driven, in the same way
+    ensures drive { IfDrive (words_of (map string_bytes words.now)) (λ asked. RanDrive asked.script result (H.view host.old) (H.view host.new) ⊎ RanOut result (H.view host.old) (H.view host.new)) }
+    ensures drive_refuses { IfDrive (words_of (map string_bytes words.now)) (λ asked. DriveRefuses result (H.view host.old) (H.view host.new)) }
+    ensures drive_drives { IfDrive (words_of (map string_bytes words.now)) (λ asked. DriveDrives result (H.view host.old) (H.view host.new)) }
+    ensures drive_spares { IfDrive (words_of (map string_bytes words.now)) (λ asked. DriveSpares result (H.view host.old)) }
+
     // words that ask for nothing
     ensures refused_words { words_of (map string_bytes words.now) ≡ None → RefusesWords result (H.view host.old) (H.view host.new) }
     ensures words { result ≡ 2 → words_of (map string_bytes words.now) ≡ None }
@@ -96,6 +104,9 @@ where
         Ok(Words::Show { file }) => show_file(alloc, host, file),
         Ok(Words::Trial { file }) => run_trial(alloc, host, file, false),
         Ok(Words::Serve(words)) => serve_asked(rt, alloc, host, &words),
+        Ok(Words::Drive(words)) => {
+            run_drive(alloc, host, words.address, words.flash, words.script)
+        }
         Err(WordsFault::Refused) => {
             say(host, b"refused words\n");
             REFUSED_WORDS

@@ -4,4 +4,5 @@ pub mod Steps
 pub mod ServeLemmas
 pub mod NumberLemmas
 pub mod ServeReading
+pub mod DriveReading
 pub mod WordsLemmas

@@ -5,7 +5,7 @@ use Rattle.clap.specs.Lexer.{short_of, strip_byte}
 use Rattle.clap.specs.Words.{Text, fault_of, first_of, is_simple, is_simple_and_free, matches_of}
 use Rattle.clap.specs.declared.error.kind.ErrorKind.TheVariants.{UnknownArgument, MissingRequiredArgument}
 use Rattle.clap.proofs.OnLiterals.{clap_on_literals}
-use Rattle.fmb_words.specs.Commands.{file_app, serve_app}
+use Rattle.fmb_words.specs.Commands.{drive_app, file_app, serve_app}
 use Rattle.fmb_words.specs.PlainWords.{IsPlainWord}
 
 pub no_hyphen : (w : Text) → IsPlainWord w → strip_byte 45 w ≡ None
@@ -92,3 +92,63 @@ serve_later_help_refused command w rest h = rw (no_hyphen w h, no_dashes w h, no
 pub serve_later_short_help_refused : (command w : Text) (rest : List Text) → IsPlainWord w → fault_of serve_app (command ∷ w ∷ codes "-h" ∷ rest) ≡ UnknownArgument ∷ []
 unfolding serve_app clap_on_literals
 serve_later_short_help_refused command w rest h = rw (no_hyphen w h, no_dashes w h, no_short w h) refl
+
+-- the same of the words of `drive`
+pub drive_is_plain : is_simple drive_app ≡ true
+unfolding drive_app clap_on_literals
+drive_is_plain = refl
+
+pub drive_is_free : is_simple_and_free drive_app ≡ true
+unfolding drive_app clap_on_literals
+drive_is_free = refl
+
+-- three plain words are taken
+pub drive_taken : (command a f s : Text) → IsPlainWord a → IsPlainWord f → IsPlainWord s → fault_of drive_app (command ∷ a ∷ f ∷ s ∷ []) ≡ []
+unfolding drive_app clap_on_literals
+drive_taken command a f s h k l = rw (no_hyphen a h, no_dashes a h, no_short a h, no_hyphen f k, no_dashes f k, no_short f k, no_hyphen s l, no_dashes s l, no_short s l) (refl {a = []})
+
+pub drive_address : (command a f s : Text) → IsPlainWord a → IsPlainWord f → IsPlainWord s → first_of (codes "ADDRESS") (matches_of drive_app (command ∷ a ∷ f ∷ s ∷ [])) ≡ Some a
+unfolding drive_app clap_on_literals
+drive_address command a f s h k l = rw (no_hyphen a h, no_dashes a h, no_short a h, no_hyphen f k, no_dashes f k, no_short f k, no_hyphen s l, no_dashes s l, no_short s l) (refl {a = Some a})
+
+pub drive_flash : (command a f s : Text) → IsPlainWord a → IsPlainWord f → IsPlainWord s → first_of (codes "FLASH") (matches_of drive_app (command ∷ a ∷ f ∷ s ∷ [])) ≡ Some f
+unfolding drive_app clap_on_literals
+drive_flash command a f s h k l = rw (no_hyphen a h, no_dashes a h, no_short a h, no_hyphen f k, no_dashes f k, no_short f k, no_hyphen s l, no_dashes s l, no_short s l) (refl {a = Some f})
+
+pub drive_script : (command a f s : Text) → IsPlainWord a → IsPlainWord f → IsPlainWord s → first_of (codes "SCRIPT") (matches_of drive_app (command ∷ a ∷ f ∷ s ∷ [])) ≡ Some s
+unfolding drive_app clap_on_literals
+drive_script command a f s h k l = rw (no_hyphen a h, no_dashes a h, no_short a h, no_hyphen f k, no_dashes f k, no_short f k, no_hyphen s l, no_dashes s l, no_short s l) (refl {a = Some s})
+
+-- fewer are refused, and a fourth, whatever follows
+pub drive_missing_refused : (command : Text) → fault_of drive_app (command ∷ []) ≡ MissingRequiredArgument ∷ []
+unfolding drive_app clap_on_literals
+drive_missing_refused command = refl
+
+pub drive_one_refused : (command a : Text) → IsPlainWord a → fault_of drive_app (command ∷ a ∷ []) ≡ MissingRequiredArgument ∷ []
+unfolding drive_app clap_on_literals
+drive_one_refused command a h = rw (no_hyphen a h, no_dashes a h, no_short a h) refl
+
+pub drive_two_refused : (command a f : Text) → IsPlainWord a → IsPlainWord f → fault_of drive_app (command ∷ a ∷ f ∷ []) ≡ MissingRequiredArgument ∷ []
+unfolding drive_app clap_on_literals
+drive_two_refused command a f h k = rw (no_hyphen a h, no_dashes a h, no_short a h, no_hyphen f k, no_dashes f k, no_short f k) refl
+
+pub drive_four_refused : (command a f s v : Text) (rest : List Text) → IsPlainWord a → IsPlainWord f → IsPlainWord s → IsPlainWord v
+    → fault_of drive_app (command ∷ a ∷ f ∷ s ∷ v ∷ rest) ≡ UnknownArgument ∷ []
+unfolding drive_app clap_on_literals
+drive_four_refused command a f s v rest h k l m = rw (no_hyphen a h, no_dashes a h, no_short a h, no_hyphen f k, no_dashes f k, no_short f k, no_hyphen s l, no_dashes s l, no_short s l, no_hyphen v m, no_dashes v m, no_short v m) refl
+
+pub drive_help_refused : (command : Text) (rest : List Text) → fault_of drive_app (command ∷ codes "--help" ∷ rest) ≡ UnknownArgument ∷ []
+unfolding drive_app clap_on_literals
+drive_help_refused command rest = refl
+
+pub drive_short_help_refused : (command : Text) (rest : List Text) → fault_of drive_app (command ∷ codes "-h" ∷ rest) ≡ UnknownArgument ∷ []
+unfolding drive_app clap_on_literals
+drive_short_help_refused command rest = refl
+
+pub drive_later_help_refused : (command w : Text) (rest : List Text) → IsPlainWord w → fault_of drive_app (command ∷ w ∷ codes "--help" ∷ rest) ≡ UnknownArgument ∷ []
+unfolding drive_app clap_on_literals
+drive_later_help_refused command w rest h = rw (no_hyphen w h, no_dashes w h, no_short w h) refl
+
+pub drive_later_short_help_refused : (command w : Text) (rest : List Text) → IsPlainWord w → fault_of drive_app (command ∷ w ∷ codes "-h" ∷ rest) ≡ UnknownArgument ∷ []
+unfolding drive_app clap_on_literals
+drive_later_short_help_refused command w rest h = rw (no_hyphen w h, no_dashes w h, no_short w h) refl

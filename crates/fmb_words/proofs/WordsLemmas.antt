@@ -6,15 +6,15 @@ use Rattle.clap.specs.Words.{HasKind, IsAmong, Kinds, Text, fault_of, first_of, 
 use Rattle.clap.specs.declared.error.Error.{Error}
 use Rattle.clap.specs.declared.error.kind.ErrorKind.TheVariants.{OutOfMemory}
 use Rattle.fmb_words.specs.Commands as of
-use Rattle.fmb_words.specs.Commands.{Command, command_of, file_app, serve_app}
-use Rattle.fmb_words.specs.Laws.{HelpIsRefused, NoFileIsRefused, OtherCommandIsRefused, PlainFileIsTaken, PlainServeIsRead, SecondFileIsRefused}
+use Rattle.fmb_words.specs.Commands.{Command, command_of, drive_app, file_app, serve_app}
+use Rattle.fmb_words.specs.Laws.{HelpIsRefused, NoFileIsRefused, OtherCommandIsRefused, OtherDriveIsRefused, PlainDriveIsRead, PlainFileIsTaken, PlainServeIsRead, SecondFileIsRefused}
 use Rattle.fmb_words.specs.PlainWords.{IsPlainWord, IsServeForm}
-use Rattle.fmb_words.specs.Values.{IsReadAs, WordsValue, serve, show, trial, value_of}
-use Rattle.fmb_words.specs.Words.{asked_of, file_of, serve_asked, serve_given, serve_of, serve_read, unless_fault, words_of}
+use Rattle.fmb_words.specs.Values.{DriveValue, IsReadAs, WordsValue, drive, serve, show, trial, value_of}
+use Rattle.fmb_words.specs.Words.{asked_of, drive_given, drive_of, drive_read, file_of, serve_asked, serve_given, serve_of, serve_read, unless_fault, words_of}
 use Rattle.fmb_words.specs.declared.fault.WordsFault.{WordsFault}
 use Rattle.fmb_words.specs.declared.fault.WordsFault.TheVariants.{NoMemory, Refused}
 use Rattle.fmb_words.specs.declared.words.Words.{Words}
-use Rattle.fmb_words.proofs.PlainLemmas.{file_read, file_taken, help_refused, later_help_refused, later_short_help_refused, missing_refused, second_refused, serve_help_refused, serve_later_help_refused, serve_later_short_help_refused, serve_missing_refused, serve_short_help_refused, short_help_refused}
+use Rattle.fmb_words.proofs.PlainLemmas.{drive_address, drive_flash, drive_four_refused, drive_help_refused, drive_later_help_refused, drive_later_short_help_refused, drive_missing_refused, drive_one_refused, drive_script, drive_short_help_refused, drive_taken, drive_two_refused, file_read, file_taken, help_refused, later_help_refused, later_short_help_refused, missing_refused, second_refused, serve_help_refused, serve_later_help_refused, serve_later_short_help_refused, serve_missing_refused, serve_short_help_refused, short_help_refused}
 use Rattle.fmb_words.proofs.ServeLemmas.{serve_taken}
 
 unless_none : {T : Type 0} (kinds : Kinds) (read : Option T) → (kinds ≡ [] → ⊥) → unless_fault kinds read ≡ None
@@ -30,6 +30,10 @@ pub faulty_serve : (words : List Text) → (fault_of serve_app words ≡ [] → 
 unfolding serve_of
 faulty_serve words some = unless_none _ _ some
 
+pub faulty_drive : (words : List Text) → (fault_of drive_app words ≡ [] → ⊥) → drive_of words ≡ None
+unfolding drive_of
+faulty_drive words some = unless_none _ _ some
+
 -- and those without one for what is read
 pub sound_file : (name : Text) (words : List Text) → fault_of (file_app name) words ≡ [] → file_of name words ≡ first_of (codes "FILE") (matches_of (file_app name) words)
 unfolding file_of
@@ -38,6 +42,17 @@ sound_file name words e = ap (λ (kinds : Kinds). unless_fault kinds (first_of (
 pub sound_serve : (words : List Text) → fault_of serve_app words ≡ [] → serve_of words ≡ serve_read (matches_of serve_app words)
 unfolding serve_of
 sound_serve words e = ap (λ (kinds : Kinds). unless_fault kinds (serve_read (matches_of serve_app words))) e
+
+pub sound_drive : (words : List Text) → fault_of drive_app words ≡ [] → drive_of words ≡ drive_read (matches_of drive_app words)
+unfolding drive_of
+sound_drive words e = ap (λ (kinds : Kinds). unless_fault kinds (drive_read (matches_of drive_app words))) e
+
+pub plain_drive : (command address flash script : Text) → IsPlainWord address → IsPlainWord flash → IsPlainWord script
+    → drive_of (command ∷ address ∷ flash ∷ script ∷ []) ≡ Some (let d : DriveValue = record { address = address; flash = flash; script = script } in d)
+unfolding drive_read
+plain_drive command address flash script h k l =
+    sound_drive _ (drive_taken command address flash script h k l)
+    ∙ (λ i. drive_given (drive_address command address flash script h k l i) (drive_flash command address flash script h k l i) (drive_script command address flash script h k l i))
 
 pub plain_file : (name command file : Text) → IsPlainWord file → file_of name (command ∷ file ∷ []) ≡ Some file
 plain_file name command file h = sound_file name _ (file_taken name command file h) ∙ file_read name command file h
@@ -55,15 +70,16 @@ one_kind : {k : _} {ks kinds : Kinds} → kinds ≡ k ∷ ks → kinds ≡ [] �
 one_kind e none = let bad : _ ∷ _ ≡ [] = sym e ∙ none in cc
 
 -- words that each command refuses
-pub refused_none : (word : Text) (rest : List Text) → ((name : Text) → file_of name (word ∷ rest) ≡ None) → serve_of (word ∷ rest) ≡ None → words_of (word ∷ rest) ≡ None
+pub refused_none : (word : Text) (rest : List Text) → ((name : Text) → file_of name (word ∷ rest) ≡ None) → serve_of (word ∷ rest) ≡ None → drive_of (word ∷ rest) ≡ None → words_of (word ∷ rest) ≡ None
 unfolding words_of asked_of
-refused_none word rest h s = go (command_of word)
+refused_none word rest h s d = go (command_of word)
   where
     go : (c : Option Command) → option_and_then (λ command. asked_of command (word ∷ rest)) c ≡ None
     go None = refl
     go (Some of.show) = ap (option_map show) (h (codes "show"))
     go (Some of.trial) = ap (option_map trial) (h (codes "trial"))
     go (Some of.serve) = ap (option_map serve) s
+    go (Some of.drive) = ap (option_map drive) d
 
 pub other_refused : OtherCommandIsRefused
 unfolding words_of
@@ -75,7 +91,7 @@ other_refused (word ∷ rest) h = go (command_of word) h
     go (Some c) h = absurd (cc)
 
 pub no_file_refused : NoFileIsRefused
-no_file_refused word = refused_none word [] (λ name. faulty_none name _ (one_kind (missing_refused name word))) (faulty_serve _ (one_kind (serve_missing_refused word)))
+no_file_refused word = refused_none word [] (λ name. faulty_none name _ (one_kind (missing_refused name word))) (faulty_serve _ (one_kind (serve_missing_refused word))) (faulty_drive _ (one_kind (drive_missing_refused word)))
 
 pub second_file_refused : SecondFileIsRefused
 unfolding words_of asked_of
@@ -84,12 +100,12 @@ second_file_refused word file second rest (inr e) h k = rw e (ap (option_map tri
 
 pub help_words_refused : HelpIsRefused
 help_words_refused word file help rest h (inl e) = (
-  rw e (refused_none word _ (λ name. faulty_none name _ (one_kind (help_refused name word rest))) (faulty_serve _ (one_kind (serve_help_refused word rest)))),
-  rw e (refused_none word _ (λ name. faulty_none name _ (one_kind (later_help_refused name word file rest h))) (faulty_serve _ (one_kind (serve_later_help_refused word file rest h)))),
+  rw e (refused_none word _ (λ name. faulty_none name _ (one_kind (help_refused name word rest))) (faulty_serve _ (one_kind (serve_help_refused word rest))) (faulty_drive _ (one_kind (drive_help_refused word rest)))),
+  rw e (refused_none word _ (λ name. faulty_none name _ (one_kind (later_help_refused name word file rest h))) (faulty_serve _ (one_kind (serve_later_help_refused word file rest h))) (faulty_drive _ (one_kind (drive_later_help_refused word file rest h)))),
 )
 help_words_refused word file help rest h (inr e) = (
-  rw e (refused_none word _ (λ name. faulty_none name _ (one_kind (short_help_refused name word rest))) (faulty_serve _ (one_kind (serve_short_help_refused word rest)))),
-  rw e (refused_none word _ (λ name. faulty_none name _ (one_kind (later_short_help_refused name word file rest h))) (faulty_serve _ (one_kind (serve_later_short_help_refused word file rest h)))),
+  rw e (refused_none word _ (λ name. faulty_none name _ (one_kind (short_help_refused name word rest))) (faulty_serve _ (one_kind (serve_short_help_refused word rest))) (faulty_drive _ (one_kind (drive_short_help_refused word rest)))),
+  rw e (refused_none word _ (λ name. faulty_none name _ (one_kind (later_short_help_refused name word file rest h))) (faulty_serve _ (one_kind (serve_later_short_help_refused word file rest h))) (faulty_drive _ (one_kind (drive_later_short_help_refused word file rest h)))),
 )
 
 pub plain_file_taken : PlainFileIsTaken
@@ -99,6 +115,18 @@ plain_file_taken file h = (ap (option_map show) (plain_file (codes "show") (code
 pub plain_serve_read : PlainServeIsRead
 unfolding words_of asked_of
 plain_serve_read words address archive imeis workers sessions form = ap (option_map serve) (plain_serve (codes "serve") words address archive imeis workers sessions form)
+
+pub plain_drive_read : PlainDriveIsRead
+unfolding words_of asked_of
+plain_drive_read address flash script h k l = ap (option_map drive) (plain_drive (codes "drive") address flash script h k l)
+
+pub other_drive_refused : OtherDriveIsRefused
+unfolding words_of asked_of
+other_drive_refused address flash script fourth rest h k l m = (
+  ap (option_map drive) (faulty_drive _ (one_kind (drive_one_refused (codes "drive") address h))),
+  ap (option_map drive) (faulty_drive _ (one_kind (drive_two_refused (codes "drive") address flash h k))),
+  ap (option_map drive) (faulty_drive _ (one_kind (drive_four_refused (codes "drive") address flash script fourth rest h k l m))),
+)
 
 -- what clap refuses for another cause than memory has a fault
 pub has_fault : (kinds : Kinds) (e : Error) → HasKind kinds e → (kind_of e ≡ OutOfMemory → ⊥) → kinds ≡ [] → ⊥
@@ -126,14 +154,14 @@ differ a b apart = go (bytes_eq a b) (bytes_eq-Decides a b)
     go true d = absurd (apart (d.0 refl))
     go false d = refl
 
-names_none : (word : Text) → (word ≡ codes "show" → ⊥) → (word ≡ codes "trial" → ⊥) → (word ≡ codes "serve" → ⊥) → command_of word ≡ None
-names_none word a b c = rw (differ _ _ a, differ _ _ b, differ _ _ c) refl
+names_none : (word : Text) → (word ≡ codes "show" → ⊥) → (word ≡ codes "trial" → ⊥) → (word ≡ codes "serve" → ⊥) → (word ≡ codes "drive" → ⊥) → command_of word ≡ None
+names_none word a b c d = rw (differ _ _ a, differ _ _ b, differ _ _ c, differ _ _ d) refl
 
 -- a first word that is no command's is refused
 pub none_refused : {X : Type 0} (text : X → Text) (words : List X) (first : X) (word : Text) → slice_get words 0 ≡ Some first → word ≡ text first
-    → (word ≡ codes "show" → ⊥) → (word ≡ codes "trial" → ⊥) → (word ≡ codes "serve" → ⊥) → words_of (map text words) ≡ None
-none_refused text [] first word is same a b c = other_refused [] refl
-none_refused text (w ∷ ws) first word is same a b c =
+    → (word ≡ codes "show" → ⊥) → (word ≡ codes "trial" → ⊥) → (word ≡ codes "serve" → ⊥) → (word ≡ codes "drive" → ⊥) → words_of (map text words) ≡ None
+none_refused text [] first word is same a b c d = other_refused [] refl
+none_refused text (w ∷ ws) first word is same a b c d =
     let is_first : w ≡ first = ap (λ o. unwrap_or o w) is in
     let is_word : word ≡ text w = same ∙ ap text (sym is_first) in
-    other_refused (text w ∷ map text ws) (ap is_some (subst (λ t. command_of t ≡ None) is_word (names_none word a b c)))
+    other_refused (text w ∷ map text ws) (ap is_some (subst (λ t. command_of t ≡ None) is_word (names_none word a b c d)))

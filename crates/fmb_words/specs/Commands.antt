@@ -9,6 +9,7 @@ pub data Command : Type 0 where
   show : Command
   trial : Command
   serve : Command
+  drive : Command
 
 -- the command that a word names
 abbrev pub command_of : Text → Option Command
@@ -16,7 +17,8 @@ command_of word =
     if bytes_eq word (codes "show") then Some show
     else (if bytes_eq word (codes "trial") then Some trial
     else (if bytes_eq word (codes "serve") then Some serve
-    else None))
+    else (if bytes_eq word (codes "drive") then Some drive
+    else None)))
 
 -- a command without `--help` and `--version`
 abbrev pub bare_app : Text → App
@@ -43,3 +45,7 @@ unfoldable pub serve_app : App
 serve_app = with_rule (with_rule (with_rule (with_rule (with_rule (bare_app (codes "serve"))
     (one_value (codes "ADDRESS"))) (one_value (codes "ARCHIVE"))) (any_values (codes "IMEI")))
     (value_option (codes "workers"))) (value_option (codes "sessions"))
+
+-- `drive ADDRESS FLASH SCRIPT`
+unfoldable pub drive_app : App
+drive_app = with_rule (with_rule (with_rule (bare_app (codes "drive")) (one_value (codes "ADDRESS"))) (one_value (codes "FLASH"))) (one_value (codes "SCRIPT"))

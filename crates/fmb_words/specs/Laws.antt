@@ -1,7 +1,7 @@
 -- The laws of lists of words.
 use Rattle.std.specs.Prelude.{◌≡◌, ◌⊎◌, ℕ, false, List, [], ◌∷◌, Some, None, option_map, codes}
 use Rattle.fmb_words.specs.PlainWords.{IsPlainWord, IsServeForm, names_command}
-use Rattle.fmb_words.specs.Values.{serve, show, trial}
+use Rattle.fmb_words.specs.Values.{drive, serve, show, trial}
 use Rattle.fmb_words.specs.Words.{serve_asked, words_of}
 
 -- A command of one file and a plain word ask for that command with that file.
@@ -33,3 +33,14 @@ abbrev pub PlainServeIsRead : Type 0
 PlainServeIsRead = (words : List (List ℕ)) (address archive : List ℕ) (imeis : List (List ℕ)) (workers sessions : List ℕ)
     → IsServeForm words address archive imeis workers sessions
     → words_of (codes "serve" ∷ words) ≡ option_map serve (serve_asked address archive imeis workers sessions)
+
+-- `drive` with an address, a flash and a script asks for just that.
+abbrev pub PlainDriveIsRead : Type 0
+PlainDriveIsRead = (address flash script : List ℕ) → IsPlainWord address → IsPlainWord flash → IsPlainWord script
+    → words_of (codes "drive" ∷ address ∷ flash ∷ script ∷ []) ≡ Some (drive (record { address = address; flash = flash; script = script }))
+
+-- With fewer words or more it is refused, whatever follows them.
+abbrev pub OtherDriveIsRefused : Type 0
+OtherDriveIsRefused = (address flash script fourth : List ℕ) (rest : List (List ℕ)) → IsPlainWord address → IsPlainWord flash → IsPlainWord script → IsPlainWord fourth
+    → (words_of (codes "drive" ∷ address ∷ []) ≡ None) × (words_of (codes "drive" ∷ address ∷ flash ∷ []) ≡ None)
+    × (words_of (codes "drive" ∷ address ∷ flash ∷ script ∷ fourth ∷ rest) ≡ None)

@@ -2,6 +2,7 @@
 use Rattle.std.specs.Prelude.{◌≡◌, ◌<◌, ◌≤◌, ℕ, List, MatchResult, Result, ⊤}
 use Rattle.fmb_words.specs.declared.fault.WordsFault.{WordsFault}
 use Rattle.fmb_words.specs.declared.fault.WordsFault.TheVariants.{NoMemory}
+use Rattle.fmb_words.specs.declared.drive_words.DriveWords.{DriveWords}
 use Rattle.fmb_words.specs.declared.serve_words.ServeWords.{ServeWords}
 use Rattle.fmb_words.specs.declared.words.Words.{Words}
 use Rattle.fmb_words.specs.declared.words.Words.TheVariants as Read
@@ -15,11 +16,18 @@ pub record ServeValue : Type 0 where
   pub workers : ℕ
   pub sessions : ℕ
 
--- a command, and what it is for: the name of a file, or the server's
+-- what `drive` is asked for: an address, and the names of a flash and of a script
+pub record DriveValue : Type 0 where
+  pub address : List ℕ
+  pub flash : List ℕ
+  pub script : List ℕ
+
+-- a command, and what it is for: the name of a file, or the server's, or the device's
 pub data WordsValue : Type 0 where
   show : List ℕ → WordsValue
   trial : List ℕ → WordsValue
   serve : ServeValue → WordsValue
+  drive : DriveValue → WordsValue
 
 -- what was read, as such values
 abbrev pub serve_value_of : ServeWords → ServeValue
@@ -31,10 +39,14 @@ serve_value_of words = record {
   sessions = words.sessions;
 }
 
+abbrev pub drive_value_of : DriveWords → DriveValue
+drive_value_of words = record { address = words.address.now; flash = words.flash.now; script = words.script.now }
+
 abbrev pub value_of : Words → WordsValue
 value_of (Read.Show file) = show file.now
 value_of (Read.Trial file) = trial file.now
 value_of (Read.Serve words) = serve (serve_value_of words)
+value_of (Read.Drive words) = drive (drive_value_of words)
 
 -- this was read, or memory is wanting
 abbrev pub IsReadAs : WordsValue → Result Words WordsFault → Type 0
@@ -52,3 +64,4 @@ abbrev pub HasRanges : Words → Type 0
 HasRanges (Read.Show file) = ⊤
 HasRanges (Read.Trial file) = ⊤
 HasRanges (Read.Serve words) = IsInRange words
+HasRanges (Read.Drive words) = ⊤

@@ -2,9 +2,9 @@
 use Rattle.std.specs.Prelude.{List, [], ◌∷◌, Option, None, option_and_then, option_map, unwrap_or, codes}
 use Rattle.clap.specs.Words.{Kinds, Row, Text, all_of, fault_of, first_of, matches_of}
 use Rattle.fmb_words.specs.Commands as of
-use Rattle.fmb_words.specs.Commands.{Command, command_of, file_app, serve_app}
+use Rattle.fmb_words.specs.Commands.{Command, command_of, drive_app, file_app, serve_app}
 use Rattle.fmb_words.specs.Numbers.{imeis_of, number_within}
-use Rattle.fmb_words.specs.Values.{ServeValue, WordsValue, serve, show, trial}
+use Rattle.fmb_words.specs.Values.{DriveValue, ServeValue, WordsValue, drive, serve, show, trial}
 
 -- nothing, where there is a fault
 abbrev pub unless_fault : {T : Type 0} → Kinds → Option T → Option T
@@ -35,11 +35,24 @@ serve_read rows = serve_given (first_of (codes "ADDRESS") rows) (first_of (codes
 unfoldable pub serve_of : List Text → Option ServeValue
 serve_of words = unless_fault (fault_of serve_app words) (serve_read (matches_of serve_app words))
 
+-- what the words of `drive` ask for, which are there or not
+abbrev pub drive_given : Option Text → Option Text → Option Text → Option DriveValue
+drive_given address flash script = option_and_then (λ a. option_and_then (λ f. option_map (λ s. record { address = a; flash = f; script = s }) script) flash) address
+
+-- what clap's matches ask for
+unfoldable pub drive_read : List Row → Option DriveValue
+drive_read rows = drive_given (first_of (codes "ADDRESS") rows) (first_of (codes "FLASH") rows) (first_of (codes "SCRIPT") rows)
+
+-- what clap reads of the words of `drive`, of which the first is the command's own; None where clap refuses them
+unfoldable pub drive_of : List Text → Option DriveValue
+drive_of words = unless_fault (fault_of drive_app words) (drive_read (matches_of drive_app words))
+
 -- what a command's words ask for
 unfoldable pub asked_of : Command → List Text → Option WordsValue
 asked_of of.show words = option_map show (file_of (codes "show") words)
 asked_of of.trial words = option_map trial (file_of (codes "trial") words)
 asked_of of.serve words = option_map serve (serve_of words)
+asked_of of.drive words = option_map drive (drive_of words)
 
 -- what the words after the program's name ask for; None where they are refused
 unfoldable pub words_of : List Text → Option WordsValue

@@ -1,5 +1,5 @@
 //! The laws of lists of words, each as the contract of a function that does nothing.
-ghost use Rattle.fmb_words.specs.Laws.{HelpIsRefused, NoFileIsRefused, OtherCommandIsRefused, PlainFileIsTaken, PlainServeIsRead, SecondFileIsRefused};
+ghost use Rattle.fmb_words.specs.Laws.{HelpIsRefused, NoFileIsRefused, OtherCommandIsRefused, OtherDriveIsRefused, PlainDriveIsRead, PlainFileIsTaken, PlainServeIsRead, SecondFileIsRefused};
 
 /// `show W` and `trial W`, where W is neither empty nor begins with a hyphen, ask for that command with the file W.
 pub fn plain_file_is_taken()
@@ -29,4 +29,14 @@ pub fn help_is_refused()
 /// The words of `serve`, in the order that is written down, ask for just what they say, or are refused where a number or an IMEI isn't one.
 pub fn plain_serve_is_read()
     ensures { PlainServeIsRead }
+{}
+
+/// `drive` with an address, a flash and a script asks for just that.
+pub fn plain_drive_is_read()
+    ensures { PlainDriveIsRead }
+{}
+
+/// `drive` with one, two or more than three words is refused.
+pub fn other_drive_is_refused()
+    ensures { OtherDriveIsRefused }
 {}

@@ -2,6 +2,7 @@
 #![tactic(auto)]
 
 mod commands;
+mod drive_words;
 mod fault;
 mod file_word;
 mod laws;
@@ -9,10 +10,11 @@ mod number;
 mod serve_words;
 mod words;
 
+pub use drive_words::DriveWords;
 pub use fault::WordsFault;
 pub use laws::{
-    help_is_refused, no_file_is_refused, other_command_is_refused, plain_file_is_taken,
-    plain_serve_is_read, second_file_is_refused,
+    help_is_refused, no_file_is_refused, other_command_is_refused, other_drive_is_refused,
+    plain_drive_is_read, plain_file_is_taken, plain_serve_is_read, second_file_is_refused,
 };
 pub use serve_words::ServeWords;
 pub use words::{Words, read_words};

@@ -29,6 +29,10 @@ fn read_of(alloc: Global, list: &[&str]) -> Result<String, AllocError> {
         Ok(Words::Show { file }) => format!(in alloc; "show [{file}]"),
         Ok(Words::Trial { file }) => format!(in alloc; "trial [{file}]"),
         Ok(Words::Serve(words)) => serve_text(alloc, &words),
+        Ok(Words::Drive(words)) => format!(in alloc;
+            "drive [{}] [{}] [{}]",
+            words.address, words.flash, words.script
+        ),
         Err(fault) => format!(in alloc; "{fault}"),
     }
 }
@@ -50,6 +54,10 @@ fn reads_lists_of_words(rt: HostRuntime) -> Result<(), Fail> {
         (["trial", "f", "-x"].as_slice(), "refused words"),
         (["show", ""].as_slice(), "show []"),
         (["show", "--", "-x"].as_slice(), "show [-x]"),
+        (["drive", "a:1", "f", "s"].as_slice(), "drive [a:1] [f] [s]"),
+        (["drive", "a:1", "f"].as_slice(), "refused words"),
+        (["drive", "a:1", "f", "s", "t"].as_slice(), "refused words"),
+        (["drive", "--help"].as_slice(), "refused words"),
     ] {
         let got = read_of(rt.alloc(), list)?;
         assert_eq!(rt; got.as_str(), read);

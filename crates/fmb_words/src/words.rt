@@ -1,8 +1,9 @@
 ghost use Rattle.std.specs.Prelude.{◌≡◌, ◌≢◌, ◌↔◌, Err, IfOk, List, None, Some, [], ◌∷◌, codes, false, map, string_bytes, ℕ};
 ghost use Rattle.fmb_words.specs.PlainWords.{IsPlainWord, IsServeForm, names_command};
-ghost use Rattle.fmb_words.specs.Values.{HasRanges, IsReadAs, ServeValue, serve, show, trial, value_of};
+ghost use Rattle.fmb_words.specs.Values.{HasRanges, IsReadAs, ServeValue, drive, serve, show, trial, value_of};
 ghost use Rattle.fmb_words.specs.Words.{serve_asked, words_of};
 
+use crate::drive_words::{DriveWords, read_drive};
 use crate::fault::WordsFault;
 use crate::file_word::read_file;
 use crate::serve_words::{ServeWords, read_serve};
@@ -17,6 +18,8 @@ pub enum Words<'a> {
     Trial { file: &'a str },
     /// Serve an archive at an address.
     Serve(ServeWords<'a>),
+    /// Play the script of this name as a device against a server.
+    Drive(DriveWords<'a>),
 }
 
 // What the words ask for.
@@ -38,12 +41,14 @@ fn command_of<'a>(alloc: Global, words: &'a [String]) -> Result<Words<'a>, Words
             file: read_file(alloc, "trial", words)?,
         }),
         "serve" => Ok(Words::Serve(read_serve(alloc, words)?)),
+        "drive" => Ok(Words::Drive(read_drive(alloc, words)?)),
         _ => Err(WordsFault::Refused),
     }
 }
 
-/// Reads the words after the program's name: `show FILE`, `trial FILE`, or `serve ADDRESS ARCHIVE [IMEI ..] --workers W --sessions K`
-/// with 1 to 64 workers and 1 to 100,000 sessions. The first word names the command, and clap reads the rest.
+/// Reads the words after the program's name: `show FILE`, `trial FILE`, `drive ADDRESS FLASH SCRIPT`, or `serve ADDRESS ARCHIVE
+/// [IMEI ..] --workers W --sessions K` with 1 to 64 workers and 1 to 100,000 sessions. The first word names the command, and clap reads
+/// the rest.
 pub fn read_words<'a>(alloc: Global, words: &'a [String]) -> Result<Words<'a>, WordsFault>
     ensures read { IfOk result (λ read. words_of (map string_bytes words.entry.now) ≡ Some (value_of read)) }
     ensures ranges { IfOk result HasRanges }
@@ -61,6 +66,11 @@ pub fn read_words<'a>(alloc: Global, words: &'a [String]) -> Result<Words<'a>, W
     ensures plain_serve { (rest : List (List ℕ)) (address archive : List ℕ) (imeis : List (List ℕ)) (workers sessions : List ℕ) (value : ServeValue)
         → map string_bytes words.entry.now ≡ codes "serve" ∷ rest → IsServeForm rest address archive imeis workers sessions
         → serve_asked address archive imeis workers sessions ≡ Some value → IsReadAs (serve value) result }
+
+    // and so are three plain words of `drive`
+    ensures plain_drive { (address flash script : List ℕ) → IsPlainWord address → IsPlainWord flash → IsPlainWord script
+        → map string_bytes words.entry.now ≡ codes "drive" ∷ address ∷ flash ∷ script ∷ []
+        → IsReadAs (drive (record { address = address; flash = flash; script = script })) result }
 {
     command_of(alloc, words)
 }

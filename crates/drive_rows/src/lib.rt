@@ -1,0 +1,6 @@
+//! A drive over a host in memory: what it prints, its status, and what goes back. It has tests alone, so that the crates below aren't
+//! proved once more for them.
+#![tactic(auto)]
+
+#[cfg(test)]
+mod rows;

@@ -1,0 +1,15 @@
+pub mod Devices
+pub mod Doing
+pub mod Finishing
+pub mod Flashing
+pub mod Halting
+pub mod History
+pub mod Keeping
+pub mod Opened
+pub mod Places
+pub mod Progress
+pub mod Ran
+pub mod Records
+pub mod Rounds
+pub mod Stopping
+pub mod Texts
