@@ -1,0 +1,5 @@
+mod BenchLemmas
+mod DeviceLemmas
+mod JudgeLemmas
+mod ScriptLemmas
+mod TrialLemmas
