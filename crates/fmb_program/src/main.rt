@@ -1,6 +1,7 @@
-//! The program: `fmb show FILE`, `fmb trial FILE`, `fmb serve ADDRESS ARCHIVE [IMEI ..] --workers W --sessions K`, and `fmb drive ADDRESS
-//! FLASH SCRIPT`. It is a host over the file system, TCP and standard output, and ends with the status of `run`. The adapters tell nothing
-//! of what a file holds, a connection carried or standard output took; they count their failures.
+//! The program: `fmb show FILE`, `fmb trial FILE [--brief]`, `fmb made SEED DEVICES FIXES`, `fmb drive ADDRESS FLASH SCRIPT`, and
+//! `fmb serve ADDRESS ARCHIVE [IMEI ..] --workers W --sessions K`. It is a host over the file system, TCP and standard output, with benches
+//! in memory, and ends with the status of `run`. The adapters tell nothing of what a file holds, a connection carried or standard output
+//! took; they count their failures.
 #![tactic(auto)]
 
 mod file;

@@ -1,6 +1,6 @@
 -- What is judged of a text that was read is what is judged of the source's whole text.
 use Rattle.std.proofs.Common.{[], subst, ◌≡◌, ◌<◌, ◌^◌, ℕ, true, false, List, Option, None, Some, Result, Ok, Err, length, refl, sym, ap, ◌∙◌, inl, inr}
-use Rattle.std.specs.Prelude.{IfSome, ◌⊎◌}
+use Rattle.std.specs.Prelude.{◌⊎◌}
 use Rattle.std.specs.Io.KnownBytes.{IsAtEnd}
 use Rattle.capture_text.proofs.CaptureLemmas.{too_long as long_capture}
 use Rattle.fmb_io.proofs.ReadSteps.{same_judged}
@@ -8,13 +8,6 @@ use Rattle.fmb_io.specs.Text.{IsReadOf, IsTextOf, OfText}
 use Rattle.capture_text.specs.Capture.{LineValue, capture_of}
 use Rattle.capture_text.specs.declared.fault.CaptureRefusal.{CaptureRefusal}
 use Rattle.fmb_show.specs.Shown.{Print, capture_print, front_print, lines_print, shown, shown_front}
-use Rattle.trial_bench.specs.PlainScript.{script_of}
-use Rattle.trial_model.specs.Script.{Script}
-use Rattle.trial_bench.proofs.Reading.{too_long}
-
--- the whole text of a source is the same script as what was read of it
-pub same_script : (told : Option (List ℕ)) (text : List ℕ) → IsReadOf told text → (whole : List ℕ) × IfSome told (λ bytes. bytes ≡ whole) × (script_of whole ≡ script_of text)
-same_script told text read = same_judged script_of _ told text too_long read
 
 -- the whole text of a source is the same capture as what was read of it
 pub same_capture : (told : Option (List ℕ)) (text : List ℕ) → IsReadOf told text → (whole : List ℕ) × IsTextOf told whole × (capture_of whole ≡ capture_of text)
@@ -53,8 +46,3 @@ ended_at left text (inl end) clean = end
 ended_at left text (inr long) clean =
     let refused : (shown text).faulty ≡ true = ap (λ c. (capture_print c).faulty) (long_capture text long) in
     absurd (let never : true ≡ false = sym refused ∙ clean in cc)
-
--- and so was a text that is a script
-pub script_ended : (left : Option (List ℕ)) (text : List ℕ) (script : Script) → IsAtEnd left ⊎ (2 ^ 24 < length text) → script_of text ≡ Ok script → IsAtEnd left
-script_ended left text script (inl end) is = end
-script_ended left text script (inr long) is = absurd (let never : Err _ ≡ Ok script = sym (too_long text long) ∙ is in cc)

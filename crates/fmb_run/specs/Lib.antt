@@ -1,3 +1,2 @@
 pub mod Asked
 pub mod Show
-pub mod Trial

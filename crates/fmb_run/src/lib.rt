@@ -1,9 +1,8 @@
 //! The program over any host: the words that it is started with, the text that it reads, and the status that it ends with.
 //! Each status has its cause and its printed line as clauses of `run`; the outcome of a trial that was played has all that every
-//! trial keeps, of a capture all is printed that it has, up to its first fault, and of an archive that was served what its workers report.
+//! trial keeps, and so have its benches; of a capture all is printed that it has, up to its first fault, and of an archive that was served what its workers report.
 #![tactic(auto)]
 
-mod judging;
 mod running;
 mod serving;
 mod showing;
@@ -14,5 +13,5 @@ pub use fmb_io::{
     DONE, HOST_FAULT, MEDIUM_FAULT, NO_MEMORY, REFUSED_MEDIUM, REFUSED_TEXT, REFUSED_WORDS,
     SINK_FAULT, SOURCE_FAULT, give_up,
 };
-pub use running::{run, run_trial};
+pub use running::run;
 pub use showing::run_show;

@@ -1,9 +1,10 @@
 ghost use Rattle.std.specs.Prelude.{IfOk};
 ghost use Rattle.fmb_host.specs.Host.{AreSmall};
 
-use crate::{run, run_trial};
+use crate::run;
 use avl_values::NoMemory;
 use fmb_host::{Host, MemoryHost};
+use fmb_trial::run_trial;
 use std::alloc::Global;
 use std::sync::Wait;
 use std::thread::Threads;
@@ -94,6 +95,20 @@ fix 356307042441013 1560161086000 0 0 0 0 0 0 0
 round 356307042441013 7 - -
 round 356307042441013 7 - -
 "
+}
+
+fn two_rounds_report() -> &'static str {
+    "\
+device 356307042441013 acquired 1 cut 0 overwritten 0 flash 0 archived 1
+acquired 356307042441013 8 0000016b40d8ea3000000000000000000000000000000000000000000000
+archived 356307042441013 8 0000016b40d8ea3000000000000000000000000000000000000000000000
+connection 1 356307042441013 device done 1 server ended up 62 62 down 5 5
+connection 2 356307042441013 device empty server ended up 0 0 down 0 0
+"
+}
+
+fn empty_report() -> &'static str {
+    "device 356307042441013 acquired 0 cut 0 overwritten 0 flash 0 archived 0\n"
 }
 
 /// Teltonika's frame of one Codec 8 record.
@@ -352,12 +367,6 @@ fn run_line<R: Threads + Wait + Sync>(
     run_on(rt, alloc, line, host)
 }
 
-fn run_brief(alloc: Global) -> Result<Answer, NoMemory> {
-    let mut host = host_of(alloc, first_round(), &[], &[], &[], 1_000)?;
-    let status = run_trial(alloc, &mut host, "first_round.fmb", true);
-    answer_of(alloc, status, &host)
-}
-
 #[test]
 fn each_failing_call_has_its_status(rt: HostRuntime) {
     let none: &[u64] = &[];
@@ -390,20 +399,19 @@ fn each_failing_call_has_its_status(rt: HostRuntime) {
 fn scripts_and_words_are_answered_as_written_down(rt: HostRuntime) {
     let cases = [
         ("trial first", "", 0, ""),
-        (
-            "trial first",
-            device_line(),
-            0,
-            "device 356307042441013 acquired 0 cut 0 overwritten 0 flash 0 archived 0\n",
-        ),
+        ("trial first", device_line(), 0, empty_report()),
         ("trial first", repeated_fix(), 0, repeated_fix_report()),
         ("trial first", one_fix(), 0, one_fix_report()),
-        ("trial first", with_power(), 3, "refused line 2 NotBuilt\n"),
-        ("trial first", two_rounds(), 3, "refused line 4 NotBuilt\n"),
+        ("trial first", with_power(), 0, empty_report()),
+        ("trial first", two_rounds(), 0, two_rounds_report()),
+        ("trial first --brief", first_round(), 0, brief_report()),
+        ("trial first", "fixx", 3, "refused line 1 UnknownWord\n"),
         ("", first_round(), 2, "refused words\n"),
         ("sho", first_round(), 2, "refused words\n"),
         ("trial", first_round(), 2, "refused words\n"),
         ("trial first second", first_round(), 2, "refused words\n"),
+        ("made 1 2", first_round(), 2, "refused words\n"),
+        ("made 1 65 100", first_round(), 2, "refused words\n"),
         (
             "serve address archive --workers 1",
             first_round(),
@@ -416,9 +424,6 @@ fn scripts_and_words_are_answered_as_written_down(rt: HostRuntime) {
         assert_eq!(rt; answer.status, status, "{line}");
         assert_eq!(rt; answer.printed.as_slice(), printed.as_bytes());
     }
-    let answer = run_brief(rt.alloc()).expect(&rt, "memory");
-    assert_eq!(rt; answer.status, 0);
-    assert_eq!(rt; answer.printed.as_slice(), brief_report().as_bytes());
 }
 
 /// What goes up: the login, then one frame of three records without elements at these times, all else in them zero.

@@ -63,23 +63,23 @@ pub in_range : (low high number : ℕ) (word : List ℕ) → is_within low high 
 in_range low high number word is = (within_least low high number word is, within_most low high number word is)
 
 -- a word that is the digits of a number which fits is parsed as that
-parsed : {E : Type 0} (low high number : ℕ) (word : List ℕ) (r : Result ℕ E) → high < 2 ^ 32 → ParsesUnsigned 32 10 word r
+parsed : {E : Type 0} (low high number : ℕ) (word : List ℕ) (r : Result ℕ E) → high < 2 ^ 64 → ParsesUnsigned 64 10 word r
     → is_within low high number word ≡ true → r ≡ Ok number
 parsed low high number word r small parses is =
     let most = within_most low high number word is in
-    parse-decimal 32 number word r (omega (arith, most)) (omega (arith, most)) (sym (within_spelled low high number word is)) parses
+    parse-decimal 64 number word r (omega (arith, most)) (omega (arith, most)) (sym (within_spelled low high number word is)) parses
 
 none_within : (low high : ℕ) (word : List ℕ) → (is_within low high (digits_value 10 word) word ≡ true → ⊥) → number_within low high word ≡ None
 unfolding number_within
 none_within low high word h = ap (λ (b : Bool). if b then Some (digits_value 10 word) else None) (not_true _ h)
 
 -- so one that isn't parsed is no number
-pub unparsed_none : {E : Type 0} (low high : ℕ) (word : List ℕ) (r : Result ℕ E) (e : E) → high < 2 ^ 32 → ParsesUnsigned 32 10 word r → r ≡ Err e → number_within low high word ≡ None
+pub unparsed_none : {E : Type 0} (low high : ℕ) (word : List ℕ) (r : Result ℕ E) (e : E) → high < 2 ^ 64 → ParsesUnsigned 64 10 word r → r ≡ Err e → number_within low high word ≡ None
 unparsed_none low high word r e small parses is =
     none_within low high word (λ yes. let bad : Err e ≡ Ok (digits_value 10 word) = sym is ∙ parsed low high _ word r small parses yes in cc)
 
 -- and neither is one that is parsed as a number, but has other digits, or is out of range
-pub other_none : {E : Type 0} (low high number : ℕ) (word : List ℕ) (r : Result ℕ E) → high < 2 ^ 32 → ParsesUnsigned 32 10 word r → r ≡ Ok number
+pub other_none : {E : Type 0} (low high number : ℕ) (word : List ℕ) (r : Result ℕ E) → high < 2 ^ 64 → ParsesUnsigned 64 10 word r → r ≡ Ok number
     → is_within low high number word ≡ false → number_within low high word ≡ None
 other_none low high number word r small parses is other =
     none_within low high word (λ yes.
@@ -88,7 +88,7 @@ other_none low high number word r small parses is other =
     let bad : false ≡ true = sym other ∙ ap (λ n. is_within low high n word) same ∙ yes in cc)
 
 -- one that is parsed as a number in range, and has its digits, is that number
-pub digits_number : (low high number : ℕ) (word : List ℕ) → high < 2 ^ 32 → is_within low high number word ≡ true → number_within low high word ≡ Some number
+pub digits_number : (low high number : ℕ) (word : List ℕ) → high < 2 ^ 64 → is_within low high number word ≡ true → number_within low high word ≡ Some number
 unfolding number_within
 digits_number low high number word small is =
     let most = within_most low high number word is in

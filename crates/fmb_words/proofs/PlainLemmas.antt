@@ -5,7 +5,7 @@ use Rattle.clap.specs.Lexer.{short_of, strip_byte}
 use Rattle.clap.specs.Words.{Text, fault_of, first_of, is_simple, is_simple_and_free, matches_of}
 use Rattle.clap.specs.declared.error.kind.ErrorKind.TheVariants.{UnknownArgument, MissingRequiredArgument}
 use Rattle.clap.proofs.OnLiterals.{clap_on_literals}
-use Rattle.fmb_words.specs.Commands.{drive_app, file_app, serve_app}
+use Rattle.fmb_words.specs.Commands.{drive_app, file_app, made_app, serve_app, trial_app}
 use Rattle.fmb_words.specs.PlainWords.{IsPlainWord}
 
 pub no_hyphen : (w : Text) → IsPlainWord w → strip_byte 45 w ≡ None
@@ -63,6 +63,109 @@ later_help_refused name command w rest h = rw (no_hyphen w h, no_dashes w h, no_
 pub later_short_help_refused : (name command w : Text) (rest : List Text) → IsPlainWord w → fault_of (file_app name) (command ∷ w ∷ codes "-h" ∷ rest) ≡ UnknownArgument ∷ []
 unfolding file_app clap_on_literals
 later_short_help_refused name command w rest h = rw (no_hyphen w h, no_dashes w h, no_short w h) refl
+
+-- the same of a trial, whose report may be brief
+pub trial_is_plain : is_simple trial_app ≡ true
+unfolding trial_app clap_on_literals
+trial_is_plain = refl
+
+pub trial_is_free : is_simple_and_free trial_app ≡ true
+unfolding trial_app clap_on_literals
+trial_is_free = refl
+
+pub trial_taken : (command w : Text) → IsPlainWord w → fault_of trial_app (command ∷ w ∷ []) ≡ []
+unfolding trial_app clap_on_literals
+trial_taken command w h = rw (no_hyphen w h, no_dashes w h, no_short w h) (refl {a = []})
+
+pub trial_file : (command w : Text) → IsPlainWord w → first_of (codes "FILE") (matches_of trial_app (command ∷ w ∷ [])) ≡ Some w
+unfolding trial_app clap_on_literals
+trial_file command w h = rw (no_hyphen w h, no_dashes w h, no_short w h) (refl {a = Some w})
+
+pub trial_unset : (command w : Text) → IsPlainWord w → first_of (codes "brief") (matches_of trial_app (command ∷ w ∷ [])) ≡ Some (codes "false")
+unfolding trial_app clap_on_literals
+trial_unset command w h = rw (no_hyphen w h, no_dashes w h, no_short w h) refl
+
+pub brief_taken : (command w : Text) → IsPlainWord w → fault_of trial_app (command ∷ w ∷ codes "--brief" ∷ []) ≡ []
+unfolding trial_app clap_on_literals
+brief_taken command w h = rw (no_hyphen w h, no_dashes w h, no_short w h) (refl {a = []})
+
+pub brief_file : (command w : Text) → IsPlainWord w → first_of (codes "FILE") (matches_of trial_app (command ∷ w ∷ codes "--brief" ∷ [])) ≡ Some w
+unfolding trial_app clap_on_literals
+brief_file command w h = rw (no_hyphen w h, no_dashes w h, no_short w h) (refl {a = Some w})
+
+pub brief_set : (command w : Text) → IsPlainWord w → first_of (codes "brief") (matches_of trial_app (command ∷ w ∷ codes "--brief" ∷ [])) ≡ Some (codes "true")
+unfolding trial_app clap_on_literals
+brief_set command w h = rw (no_hyphen w h, no_dashes w h, no_short w h) refl
+
+pub trial_second_refused : (command w v : Text) (rest : List Text) → IsPlainWord w → IsPlainWord v → fault_of trial_app (command ∷ w ∷ v ∷ rest) ≡ UnknownArgument ∷ []
+unfolding trial_app clap_on_literals
+trial_second_refused command w v rest h k = rw (no_hyphen w h, no_dashes w h, no_short w h, no_hyphen v k, no_dashes v k, no_short v k) refl
+
+pub trial_missing_refused : (command : Text) → fault_of trial_app (command ∷ []) ≡ MissingRequiredArgument ∷ []
+unfolding trial_app clap_on_literals
+trial_missing_refused command = refl
+
+pub trial_help_refused : (command : Text) (rest : List Text) → fault_of trial_app (command ∷ codes "--help" ∷ rest) ≡ UnknownArgument ∷ []
+unfolding trial_app clap_on_literals
+trial_help_refused command rest = refl
+
+pub trial_short_help_refused : (command : Text) (rest : List Text) → fault_of trial_app (command ∷ codes "-h" ∷ rest) ≡ UnknownArgument ∷ []
+unfolding trial_app clap_on_literals
+trial_short_help_refused command rest = refl
+
+pub trial_later_help_refused : (command w : Text) (rest : List Text) → IsPlainWord w → fault_of trial_app (command ∷ w ∷ codes "--help" ∷ rest) ≡ UnknownArgument ∷ []
+unfolding trial_app clap_on_literals
+trial_later_help_refused command w rest h = rw (no_hyphen w h, no_dashes w h, no_short w h) refl
+
+pub trial_later_short_help_refused : (command w : Text) (rest : List Text) → IsPlainWord w → fault_of trial_app (command ∷ w ∷ codes "-h" ∷ rest) ≡ UnknownArgument ∷ []
+unfolding trial_app clap_on_literals
+trial_later_short_help_refused command w rest h = rw (no_hyphen w h, no_dashes w h, no_short w h) refl
+
+-- the same of the words of `made`
+pub made_is_plain : is_simple made_app ≡ true
+unfolding made_app clap_on_literals
+made_is_plain = refl
+
+pub made_is_free : is_simple_and_free made_app ≡ true
+unfolding made_app clap_on_literals
+made_is_free = refl
+
+module _ (command a b c : Text) (ha : IsPlainWord a) (hb : IsPlainWord b) (hc : IsPlainWord c) where
+  pub made_taken : fault_of made_app (command ∷ a ∷ b ∷ c ∷ []) ≡ []
+  unfolding made_app clap_on_literals
+  made_taken = rw (no_hyphen a ha, no_dashes a ha, no_short a ha, no_hyphen b hb, no_dashes b hb, no_short b hb, no_hyphen c hc, no_dashes c hc, no_short c hc) (refl {a = []})
+
+  pub made_seed : first_of (codes "SEED") (matches_of made_app (command ∷ a ∷ b ∷ c ∷ [])) ≡ Some a
+  unfolding made_app clap_on_literals
+  made_seed = rw (no_hyphen a ha, no_dashes a ha, no_short a ha, no_hyphen b hb, no_dashes b hb, no_short b hb, no_hyphen c hc, no_dashes c hc, no_short c hc) (refl {a = Some a})
+
+  pub made_devices : first_of (codes "DEVICES") (matches_of made_app (command ∷ a ∷ b ∷ c ∷ [])) ≡ Some b
+  unfolding made_app clap_on_literals
+  made_devices = rw (no_hyphen a ha, no_dashes a ha, no_short a ha, no_hyphen b hb, no_dashes b hb, no_short b hb, no_hyphen c hc, no_dashes c hc, no_short c hc) (refl {a = Some b})
+
+  pub made_fixes : first_of (codes "FIXES") (matches_of made_app (command ∷ a ∷ b ∷ c ∷ [])) ≡ Some c
+  unfolding made_app clap_on_literals
+  made_fixes = rw (no_hyphen a ha, no_dashes a ha, no_short a ha, no_hyphen b hb, no_dashes b hb, no_short b hb, no_hyphen c hc, no_dashes c hc, no_short c hc) (refl {a = Some c})
+
+pub made_missing_refused : (command : Text) → fault_of made_app (command ∷ []) ≡ MissingRequiredArgument ∷ []
+unfolding made_app clap_on_literals
+made_missing_refused command = refl
+
+pub made_help_refused : (command : Text) (rest : List Text) → fault_of made_app (command ∷ codes "--help" ∷ rest) ≡ UnknownArgument ∷ []
+unfolding made_app clap_on_literals
+made_help_refused command rest = refl
+
+pub made_short_help_refused : (command : Text) (rest : List Text) → fault_of made_app (command ∷ codes "-h" ∷ rest) ≡ UnknownArgument ∷ []
+unfolding made_app clap_on_literals
+made_short_help_refused command rest = refl
+
+pub made_later_help_refused : (command w : Text) (rest : List Text) → IsPlainWord w → fault_of made_app (command ∷ w ∷ codes "--help" ∷ rest) ≡ UnknownArgument ∷ []
+unfolding made_app clap_on_literals
+made_later_help_refused command w rest h = rw (no_hyphen w h, no_dashes w h, no_short w h) refl
+
+pub made_later_short_help_refused : (command w : Text) (rest : List Text) → IsPlainWord w → fault_of made_app (command ∷ w ∷ codes "-h" ∷ rest) ≡ UnknownArgument ∷ []
+unfolding made_app clap_on_literals
+made_later_short_help_refused command w rest h = rw (no_hyphen w h, no_dashes w h, no_short w h) refl
 
 -- the same of the words of `serve`
 pub serve_is_plain : is_simple serve_app ≡ true

@@ -2,19 +2,19 @@
 use Rattle.std.proofs.Common.{◌≡◌, ◌≢◌, ◌↔◌, ◌∙◌, Bool, true, false, List, [], ◌∷◌, Option, Some, None, Result, Ok, Err, IfOk, IsErrAnd, is_some, option_and_then, option_map, map, slice_get, inl, inr, refl, sym, ap, subst, unwrap_or, codes, Decides}
 use Rattle.std.proofs.lemmas.Slice.Eq.{bytes_eq-Decides}
 use Rattle.std.specs.Str.{bytes_eq}
-use Rattle.clap.specs.Words.{HasKind, IsAmong, Kinds, Text, fault_of, first_of, kind_of, matches_of}
+use Rattle.clap.specs.Words.{HasKind, IsAmong, Kinds, Row, Text, fault_of, first_of, kind_of, matches_of}
 use Rattle.clap.specs.declared.error.Error.{Error}
 use Rattle.clap.specs.declared.error.kind.ErrorKind.TheVariants.{OutOfMemory}
 use Rattle.fmb_words.specs.Commands as of
-use Rattle.fmb_words.specs.Commands.{Command, command_of, drive_app, file_app, serve_app}
-use Rattle.fmb_words.specs.Laws.{HelpIsRefused, NoFileIsRefused, OtherCommandIsRefused, OtherDriveIsRefused, PlainDriveIsRead, PlainFileIsTaken, PlainServeIsRead, SecondFileIsRefused}
+use Rattle.fmb_words.specs.Commands.{Command, command_of, drive_app, file_app, made_app, serve_app, trial_app}
+use Rattle.fmb_words.specs.Laws.{HelpIsRefused, NoFileIsRefused, OtherCommandIsRefused, OtherDriveIsRefused, PlainDriveIsRead, PlainFileIsTaken, PlainMadeIsRead, PlainServeIsRead, SecondFileIsRefused}
 use Rattle.fmb_words.specs.PlainWords.{IsPlainWord, IsServeForm}
-use Rattle.fmb_words.specs.Values.{DriveValue, IsReadAs, WordsValue, drive, serve, show, trial, value_of}
-use Rattle.fmb_words.specs.Words.{asked_of, drive_given, drive_of, drive_read, file_of, serve_asked, serve_given, serve_of, serve_read, unless_fault, words_of}
+use Rattle.fmb_words.specs.Values.{DriveValue, IsReadAs, WordsValue, drive, made, serve, show, trial, value_of}
+use Rattle.fmb_words.specs.Words.{asked_of, drive_given, drive_of, drive_read, file_of, is_set, made_asked, made_given, made_of, made_read, serve_asked, serve_given, serve_of, serve_read, trial_of, trial_read, unless_fault, words_of}
 use Rattle.fmb_words.specs.declared.fault.WordsFault.{WordsFault}
 use Rattle.fmb_words.specs.declared.fault.WordsFault.TheVariants.{NoMemory, Refused}
 use Rattle.fmb_words.specs.declared.words.Words.{Words}
-use Rattle.fmb_words.proofs.PlainLemmas.{drive_address, drive_flash, drive_four_refused, drive_help_refused, drive_later_help_refused, drive_later_short_help_refused, drive_missing_refused, drive_one_refused, drive_script, drive_short_help_refused, drive_taken, drive_two_refused, file_read, file_taken, help_refused, later_help_refused, later_short_help_refused, missing_refused, second_refused, serve_help_refused, serve_later_help_refused, serve_later_short_help_refused, serve_missing_refused, serve_short_help_refused, short_help_refused}
+use Rattle.fmb_words.proofs.PlainLemmas.{brief_file, brief_set, brief_taken, drive_address, drive_flash, drive_four_refused, drive_help_refused, drive_later_help_refused, drive_later_short_help_refused, drive_missing_refused, drive_one_refused, drive_script, drive_short_help_refused, drive_taken, drive_two_refused, file_read, file_taken, help_refused, later_help_refused, later_short_help_refused, made_devices, made_fixes, made_help_refused, made_later_help_refused, made_later_short_help_refused, made_missing_refused, made_seed, made_short_help_refused, made_taken, missing_refused, second_refused, serve_help_refused, serve_later_help_refused, serve_later_short_help_refused, serve_missing_refused, serve_short_help_refused, short_help_refused, trial_file, trial_help_refused, trial_later_help_refused, trial_later_short_help_refused, trial_missing_refused, trial_second_refused, trial_short_help_refused, trial_taken, trial_unset}
 use Rattle.fmb_words.proofs.ServeLemmas.{serve_taken}
 
 unless_none : {T : Type 0} (kinds : Kinds) (read : Option T) → (kinds ≡ [] → ⊥) → unless_fault kinds read ≡ None
@@ -25,6 +25,14 @@ unless_none (k ∷ ks) read some = refl
 pub faulty_none : (name : Text) (words : List Text) → (fault_of (file_app name) words ≡ [] → ⊥) → file_of name words ≡ None
 unfolding file_of
 faulty_none name words some = unless_none _ _ some
+
+pub faulty_trial : (words : List Text) → (fault_of trial_app words ≡ [] → ⊥) → trial_of words ≡ None
+unfolding trial_of
+faulty_trial words some = unless_none _ _ some
+
+pub faulty_made : (words : List Text) → (fault_of made_app words ≡ [] → ⊥) → made_of words ≡ None
+unfolding made_of
+faulty_made words some = unless_none _ _ some
 
 pub faulty_serve : (words : List Text) → (fault_of serve_app words ≡ [] → ⊥) → serve_of words ≡ None
 unfolding serve_of
@@ -38,6 +46,14 @@ faulty_drive words some = unless_none _ _ some
 pub sound_file : (name : Text) (words : List Text) → fault_of (file_app name) words ≡ [] → file_of name words ≡ first_of (codes "FILE") (matches_of (file_app name) words)
 unfolding file_of
 sound_file name words e = ap (λ (kinds : Kinds). unless_fault kinds (first_of (codes "FILE") (matches_of (file_app name) words))) e
+
+pub sound_trial : (words : List Text) → fault_of trial_app words ≡ [] → trial_of words ≡ trial_read (matches_of trial_app words)
+unfolding trial_of
+sound_trial words e = ap (λ (kinds : Kinds). unless_fault kinds (trial_read (matches_of trial_app words))) e
+
+pub sound_made : (words : List Text) → fault_of made_app words ≡ [] → made_of words ≡ made_read (matches_of made_app words)
+unfolding made_of
+sound_made words e = ap (λ (kinds : Kinds). unless_fault kinds (made_read (matches_of made_app words))) e
 
 pub sound_serve : (words : List Text) → fault_of serve_app words ≡ [] → serve_of words ≡ serve_read (matches_of serve_app words)
 unfolding serve_of
@@ -57,6 +73,25 @@ plain_drive command address flash script h k l =
 pub plain_file : (name command file : Text) → IsPlainWord file → file_of name (command ∷ file ∷ []) ≡ Some file
 plain_file name command file h = sound_file name _ (file_taken name command file h) ∙ file_read name command file h
 
+-- what clap's matches of a trial say
+read_trial : (rows : List Row) (file : Text) (brief : Text) → first_of (codes "FILE") rows ≡ Some file → first_of (codes "brief") rows ≡ Some brief
+    → trial_read rows ≡ Some (trial file (is_set (Some brief)))
+unfolding trial_read
+read_trial rows file brief f b = λ i. option_map (λ file. trial file (is_set (b i))) (f i)
+
+pub plain_trial : (command file : Text) → IsPlainWord file → trial_of (command ∷ file ∷ []) ≡ Some (trial file false)
+plain_trial command file h = sound_trial _ (trial_taken command file h) ∙ read_trial _ file (codes "false") (trial_file command file h) (trial_unset command file h)
+
+pub brief_trial : (command file : Text) → IsPlainWord file → trial_of (command ∷ file ∷ codes "--brief" ∷ []) ≡ Some (trial file true)
+brief_trial command file h = sound_trial _ (brief_taken command file h) ∙ read_trial _ file (codes "true") (brief_file command file h) (brief_set command file h)
+
+pub plain_made : (command seed devices fixes : Text) → IsPlainWord seed → IsPlainWord devices → IsPlainWord fixes
+    → made_of (command ∷ seed ∷ devices ∷ fixes ∷ []) ≡ made_asked seed devices fixes
+unfolding made_read
+plain_made command seed devices fixes hs hd hf =
+    sound_made _ (made_taken command seed devices fixes hs hd hf)
+    ∙ (λ i. made_given (made_seed command seed devices fixes hs hd hf i) (made_devices command seed devices fixes hs hd hf i) (made_fixes command seed devices fixes hs hd hf i))
+
 pub plain_serve : (command : Text) (words : List Text) (address archive : Text) (imeis : List Text) (workers sessions : Text)
     → IsServeForm words address archive imeis workers sessions → serve_of (command ∷ words) ≡ serve_asked address archive imeis workers sessions
 unfolding serve_read
@@ -70,14 +105,16 @@ one_kind : {k : _} {ks kinds : Kinds} → kinds ≡ k ∷ ks → kinds ≡ [] �
 one_kind e none = let bad : _ ∷ _ ≡ [] = sym e ∙ none in cc
 
 -- words that each command refuses
-pub refused_none : (word : Text) (rest : List Text) → ((name : Text) → file_of name (word ∷ rest) ≡ None) → serve_of (word ∷ rest) ≡ None → drive_of (word ∷ rest) ≡ None → words_of (word ∷ rest) ≡ None
+pub refused_none : (word : Text) (rest : List Text) → ((name : Text) → file_of name (word ∷ rest) ≡ None) → trial_of (word ∷ rest) ≡ None → made_of (word ∷ rest) ≡ None → serve_of (word ∷ rest) ≡ None
+    → drive_of (word ∷ rest) ≡ None → words_of (word ∷ rest) ≡ None
 unfolding words_of asked_of
-refused_none word rest h s d = go (command_of word)
+refused_none word rest h t m s d = go (command_of word)
   where
     go : (c : Option Command) → option_and_then (λ command. asked_of command (word ∷ rest)) c ≡ None
     go None = refl
     go (Some of.show) = ap (option_map show) (h (codes "show"))
-    go (Some of.trial) = ap (option_map trial) (h (codes "trial"))
+    go (Some of.trial) = t
+    go (Some of.made) = ap (option_map made) m
     go (Some of.serve) = ap (option_map serve) s
     go (Some of.drive) = ap (option_map drive) d
 
@@ -91,26 +128,35 @@ other_refused (word ∷ rest) h = go (command_of word) h
     go (Some c) h = absurd (cc)
 
 pub no_file_refused : NoFileIsRefused
-no_file_refused word = refused_none word [] (λ name. faulty_none name _ (one_kind (missing_refused name word))) (faulty_serve _ (one_kind (serve_missing_refused word))) (faulty_drive _ (one_kind (drive_missing_refused word)))
+no_file_refused word = refused_none word [] (λ name. faulty_none name _ (one_kind (missing_refused name word))) (faulty_trial _ (one_kind (trial_missing_refused word)))
+    (faulty_made _ (one_kind (made_missing_refused word))) (faulty_serve _ (one_kind (serve_missing_refused word))) (faulty_drive _ (one_kind (drive_missing_refused word)))
 
 pub second_file_refused : SecondFileIsRefused
 unfolding words_of asked_of
 second_file_refused word file second rest (inl e) h k = rw e (ap (option_map show) (faulty_none _ _ (one_kind (second_refused _ _ file second rest h k))))
-second_file_refused word file second rest (inr e) h k = rw e (ap (option_map trial) (faulty_none _ _ (one_kind (second_refused _ _ file second rest h k))))
+second_file_refused word file second rest (inr e) h k = rw e (faulty_trial _ (one_kind (trial_second_refused _ file second rest h k)))
 
 pub help_words_refused : HelpIsRefused
 help_words_refused word file help rest h (inl e) = (
-  rw e (refused_none word _ (λ name. faulty_none name _ (one_kind (help_refused name word rest))) (faulty_serve _ (one_kind (serve_help_refused word rest))) (faulty_drive _ (one_kind (drive_help_refused word rest)))),
-  rw e (refused_none word _ (λ name. faulty_none name _ (one_kind (later_help_refused name word file rest h))) (faulty_serve _ (one_kind (serve_later_help_refused word file rest h))) (faulty_drive _ (one_kind (drive_later_help_refused word file rest h)))),
+  rw e (refused_none word _ (λ name. faulty_none name _ (one_kind (help_refused name word rest)))
+      (faulty_trial _ (one_kind (trial_help_refused word rest))) (faulty_made _ (one_kind (made_help_refused word rest))) (faulty_serve _ (one_kind (serve_help_refused word rest))) (faulty_drive _ (one_kind (drive_help_refused word rest)))),
+  rw e (refused_none word _ (λ name. faulty_none name _ (one_kind (later_help_refused name word file rest h)))
+      (faulty_trial _ (one_kind (trial_later_help_refused word file rest h))) (faulty_made _ (one_kind (made_later_help_refused word file rest h))) (faulty_serve _ (one_kind (serve_later_help_refused word file rest h))) (faulty_drive _ (one_kind (drive_later_help_refused word file rest h)))),
 )
 help_words_refused word file help rest h (inr e) = (
-  rw e (refused_none word _ (λ name. faulty_none name _ (one_kind (short_help_refused name word rest))) (faulty_serve _ (one_kind (serve_short_help_refused word rest))) (faulty_drive _ (one_kind (drive_short_help_refused word rest)))),
-  rw e (refused_none word _ (λ name. faulty_none name _ (one_kind (later_short_help_refused name word file rest h))) (faulty_serve _ (one_kind (serve_later_short_help_refused word file rest h))) (faulty_drive _ (one_kind (drive_later_short_help_refused word file rest h)))),
+  rw e (refused_none word _ (λ name. faulty_none name _ (one_kind (short_help_refused name word rest)))
+      (faulty_trial _ (one_kind (trial_short_help_refused word rest))) (faulty_made _ (one_kind (made_short_help_refused word rest))) (faulty_serve _ (one_kind (serve_short_help_refused word rest))) (faulty_drive _ (one_kind (drive_short_help_refused word rest)))),
+  rw e (refused_none word _ (λ name. faulty_none name _ (one_kind (later_short_help_refused name word file rest h)))
+      (faulty_trial _ (one_kind (trial_later_short_help_refused word file rest h))) (faulty_made _ (one_kind (made_later_short_help_refused word file rest h))) (faulty_serve _ (one_kind (serve_later_short_help_refused word file rest h))) (faulty_drive _ (one_kind (drive_later_short_help_refused word file rest h)))),
 )
 
 pub plain_file_taken : PlainFileIsTaken
 unfolding words_of asked_of
-plain_file_taken file h = (ap (option_map show) (plain_file (codes "show") (codes "show") file h), ap (option_map trial) (plain_file (codes "trial") (codes "trial") file h))
+plain_file_taken file h = (ap (option_map show) (plain_file (codes "show") (codes "show") file h), plain_trial (codes "trial") file h, brief_trial (codes "trial") file h)
+
+pub plain_made_read : PlainMadeIsRead
+unfolding words_of asked_of
+plain_made_read seed devices fixes hs hd hf = ap (option_map made) (plain_made (codes "made") seed devices fixes hs hd hf)
 
 pub plain_serve_read : PlainServeIsRead
 unfolding words_of asked_of
@@ -154,14 +200,14 @@ differ a b apart = go (bytes_eq a b) (bytes_eq-Decides a b)
     go true d = absurd (apart (d.0 refl))
     go false d = refl
 
-names_none : (word : Text) → (word ≡ codes "show" → ⊥) → (word ≡ codes "trial" → ⊥) → (word ≡ codes "serve" → ⊥) → (word ≡ codes "drive" → ⊥) → command_of word ≡ None
-names_none word a b c d = rw (differ _ _ a, differ _ _ b, differ _ _ c, differ _ _ d) refl
+names_none : (word : Text) → (word ≡ codes "show" → ⊥) → (word ≡ codes "trial" → ⊥) → (word ≡ codes "made" → ⊥) → (word ≡ codes "serve" → ⊥) → (word ≡ codes "drive" → ⊥) → command_of word ≡ None
+names_none word a b c d e = rw (differ _ _ a, differ _ _ b, differ _ _ c, differ _ _ d, differ _ _ e) refl
 
 -- a first word that is no command's is refused
 pub none_refused : {X : Type 0} (text : X → Text) (words : List X) (first : X) (word : Text) → slice_get words 0 ≡ Some first → word ≡ text first
-    → (word ≡ codes "show" → ⊥) → (word ≡ codes "trial" → ⊥) → (word ≡ codes "serve" → ⊥) → (word ≡ codes "drive" → ⊥) → words_of (map text words) ≡ None
-none_refused text [] first word is same a b c d = other_refused [] refl
-none_refused text (w ∷ ws) first word is same a b c d =
+    → (word ≡ codes "show" → ⊥) → (word ≡ codes "trial" → ⊥) → (word ≡ codes "made" → ⊥) → (word ≡ codes "serve" → ⊥) → (word ≡ codes "drive" → ⊥) → words_of (map text words) ≡ None
+none_refused text [] first word is same a b c d e = other_refused [] refl
+none_refused text (w ∷ ws) first word is same a b c d e =
     let is_first : w ≡ first = ap (λ o. unwrap_or o w) is in
     let is_word : word ≡ text w = same ∙ ap text (sym is_first) in
-    other_refused (text w ∷ map text ws) (ap is_some (subst (λ t. command_of t ≡ None) is_word (names_none word a b c d)))
+    other_refused (text w ∷ map text ws) (ap is_some (subst (λ t. command_of t ≡ None) is_word (names_none word a b c d e)))

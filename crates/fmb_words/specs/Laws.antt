@@ -1,13 +1,14 @@
 -- The laws of lists of words.
-use Rattle.std.specs.Prelude.{◌≡◌, ◌⊎◌, ℕ, false, List, [], ◌∷◌, Some, None, option_map, codes}
+use Rattle.std.specs.Prelude.{◌≡◌, ◌⊎◌, ℕ, false, true, List, [], ◌∷◌, Some, None, option_map, codes}
 use Rattle.fmb_words.specs.PlainWords.{IsPlainWord, IsServeForm, names_command}
-use Rattle.fmb_words.specs.Values.{drive, serve, show, trial}
-use Rattle.fmb_words.specs.Words.{serve_asked, words_of}
+use Rattle.fmb_words.specs.Values.{drive, made, serve, show, trial}
+use Rattle.fmb_words.specs.Words.{made_asked, serve_asked, words_of}
 
--- A command of one file and a plain word ask for that command with that file.
+-- A command of one file and a plain word ask for that command with that file. A trial's report is brief where `--brief` follows.
 abbrev pub PlainFileIsTaken : Type 0
 PlainFileIsTaken = (file : List ℕ) → IsPlainWord file
-    → (words_of (codes "show" ∷ file ∷ []) ≡ Some (show file)) × (words_of (codes "trial" ∷ file ∷ []) ≡ Some (trial file))
+    → (words_of (codes "show" ∷ file ∷ []) ≡ Some (show file)) × (words_of (codes "trial" ∷ file ∷ []) ≡ Some (trial file false))
+    × (words_of (codes "trial" ∷ file ∷ codes "--brief" ∷ []) ≡ Some (trial file true))
 
 -- Words of which the first names no command are refused, and so are no words.
 abbrev pub OtherCommandIsRefused : Type 0
@@ -26,6 +27,11 @@ SecondFileIsRefused = (word file second : List ℕ) (rest : List (List ℕ)) →
 abbrev pub HelpIsRefused : Type 0
 HelpIsRefused = (word file help : List ℕ) (rest : List (List ℕ)) → IsPlainWord file → (help ≡ codes "--help") ⊎ (help ≡ codes "-h")
     → (words_of (word ∷ help ∷ rest) ≡ None) × (words_of (word ∷ file ∷ help ∷ rest) ≡ None)
+
+-- `made` with three plain words asks for just that, and is refused where one isn't a number in its range.
+abbrev pub PlainMadeIsRead : Type 0
+PlainMadeIsRead = (seed devices fixes : List ℕ) → IsPlainWord seed → IsPlainWord devices → IsPlainWord fixes
+    → words_of (codes "made" ∷ seed ∷ devices ∷ fixes ∷ []) ≡ option_map made (made_asked seed devices fixes)
 
 -- `serve` with an address, an archive, no or more IMEIs and its two options asks for just that, and is refused where a number or an IMEI
 -- isn't one.

@@ -3,7 +3,7 @@ ghost use Rattle.std.specs.Prelude.{◌≡◌, ◌≤◌, [], None, false};
 ghost use Rattle.clap.specs.Facts.{least_values};
 ghost use Rattle.clap.specs.Words.{IsPlainArg, app_of, args_of, groups_of, rule_of};
 ghost use Rattle.clap.specs.declared.builder.command.Command.TheViews.{out-Command as fields_of};
-ghost use Rattle.fmb_words.specs.Commands.{any_values as any_rule, bare_app, one_value as one_rule, value_option as option_rule};
+ghost use Rattle.fmb_words.specs.Commands.{any_values as any_rule, bare_app, flag_option as flag_rule, one_value as one_rule, value_option as option_rule};
 
 use clap::{Arg, ArgAction, Command};
 use std::alloc::Global;
@@ -36,6 +36,14 @@ pub(crate) fn any_values<'a>(alloc: Global, id: &'a str) -> Arg<'a>
     ensures local { result.global ≡ false }
 {
     Arg::new(alloc, id).action(ArgAction::Append).num_args(0..)
+}
+
+/// `--name`, which may be there.
+pub(crate) fn flag_option<'a>(alloc: Global, name: &'a str) -> Arg<'a>
+    ensures rule { rule_of result ≡ flag_rule name.entry.now }
+    ensures local { result.global ≡ false }
+{
+    Arg::new(alloc, name).long(name).action(ArgAction::SetTrue)
 }
 
 /// `--name VALUE`, which must be there.

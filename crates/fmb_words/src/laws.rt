@@ -1,7 +1,8 @@
 //! The laws of lists of words, each as the contract of a function that does nothing.
-ghost use Rattle.fmb_words.specs.Laws.{HelpIsRefused, NoFileIsRefused, OtherCommandIsRefused, OtherDriveIsRefused, PlainDriveIsRead, PlainFileIsTaken, PlainServeIsRead, SecondFileIsRefused};
+ghost use Rattle.fmb_words.specs.Laws.{HelpIsRefused, NoFileIsRefused, OtherCommandIsRefused, OtherDriveIsRefused, PlainDriveIsRead, PlainFileIsTaken, PlainMadeIsRead, PlainServeIsRead, SecondFileIsRefused};
 
-/// `show W` and `trial W`, where W is neither empty nor begins with a hyphen, ask for that command with the file W.
+/// `show W` and `trial W`, where W is neither empty nor begins with a hyphen, ask for that command with the file W; `trial W --brief` does so
+/// with a brief report.
 pub fn plain_file_is_taken()
     ensures { PlainFileIsTaken }
 {}
@@ -24,6 +25,11 @@ pub fn second_file_is_refused()
 /// `--help` and `-h` are refused words.
 pub fn help_is_refused()
     ensures { HelpIsRefused }
+{}
+
+/// `made` with three such words asks for just what they say, or is refused where one isn't a number in its range.
+pub fn plain_made_is_read()
+    ensures { PlainMadeIsRead }
 {}
 
 /// The words of `serve`, in the order that is written down, ask for just what they say, or are refused where a number or an IMEI isn't one.

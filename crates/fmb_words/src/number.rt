@@ -9,7 +9,7 @@ use itoa::Buffer;
 use std::alloc::Global;
 
 // Whether the word is the digits of this number.
-fn is_spelled(number: u32, word: &str) -> bool
+fn is_spelled(number: u64, word: &str) -> bool
     ensures { result ≡ bytes_eq (decimal number) word.now }
 {
     let mut digits = Buffer::new();
@@ -17,18 +17,18 @@ fn is_spelled(number: u32, word: &str) -> bool
 }
 
 // Whether the word is the digits of this number, which is one from low to high.
-fn is_within(low: u32, high: u32, number: u32, word: &str) -> bool
+fn is_within(low: u64, high: u64, number: u64, word: &str) -> bool
     ensures { result ≡ (bytes_eq (decimal number) word.now && (nat_le low number && nat_le number high)) }
 {
     is_spelled(number, word) && low <= number && number <= high
 }
 
 /// The number from low to high that a word spells; None exactly where it spells none.
-pub(crate) fn number(low: u32, high: u32, word: &str) -> Option<u32>
+pub(crate) fn number(low: u64, high: u64, word: &str) -> Option<u64>
     ensures number { result ≡ number_within low high word.now }
     ensures range { IfSome result (λ n. (low ≤ n) × (n ≤ high)) }
 {
-    match word.parse::<u32>() {
+    match word.parse::<u64>() {
         Ok(number) => {
             if is_within(low, high, number, word) {
                 Some(number)

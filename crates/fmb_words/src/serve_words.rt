@@ -71,8 +71,8 @@ fn asked<'a>(
         address,
         archive,
         devices,
-        workers,
-        sessions,
+        workers: workers as u32,
+        sessions: sessions as u32,
     })
 }
 

@@ -1,4 +1,4 @@
-use crate::{ServeWords, Words, read_words};
+use crate::{MadeWords, ServeWords, TrialWords, Words, read_words};
 use std::alloc::{AllocError, Global};
 use std::test::Fail;
 
@@ -27,7 +27,18 @@ fn read_of(alloc: Global, list: &[&str]) -> Result<String, AllocError> {
     let words = words_of(alloc, list)?;
     match read_words(alloc, words.as_slice()) {
         Ok(Words::Show { file }) => format!(in alloc; "show [{file}]"),
-        Ok(Words::Trial { file }) => format!(in alloc; "trial [{file}]"),
+        Ok(Words::Trial(TrialWords { file, brief })) => {
+            format!(in alloc; "trial [{file}] {brief}")
+        }
+        Ok(
+            Words::Made(
+                MadeWords {
+                    seed,
+                    devices,
+                    fixes,
+                },
+            ),
+        ) => format!(in alloc; "made {seed} {devices} {fixes}"),
         Ok(Words::Serve(words)) => serve_text(alloc, &words),
         Ok(Words::Drive(words)) => format!(in alloc;
             "drive [{}] [{}] [{}]",
@@ -41,7 +52,32 @@ fn read_of(alloc: Global, list: &[&str]) -> Result<String, AllocError> {
 fn reads_lists_of_words(rt: HostRuntime) -> Result<(), Fail> {
     for (list, read) in [
         (["show", "f"].as_slice(), "show [f]"),
-        (["trial", "f"].as_slice(), "trial [f]"),
+        (["trial", "f"].as_slice(), "trial [f] false"),
+        (["trial", "f", "--brief"].as_slice(), "trial [f] true"),
+        (["trial", "--brief", "f"].as_slice(), "trial [f] true"),
+        (
+            ["trial", "f", "--brief", "--brief"].as_slice(),
+            "refused words",
+        ),
+        (["trial", "f", "--brief=no"].as_slice(), "refused words"),
+        (["trial", "--brief"].as_slice(), "refused words"),
+        (["show", "f", "--brief"].as_slice(), "refused words"),
+        (["made", "1", "2", "100"].as_slice(), "made 1 2 100"),
+        (
+            ["made", "18446744073709551615", "64", "100000"].as_slice(),
+            "made 18446744073709551615 64 100000",
+        ),
+        (
+            ["made", "18446744073709551616", "64", "100000"].as_slice(),
+            "refused words",
+        ),
+        (["made", "0", "0", "1"].as_slice(), "refused words"),
+        (["made", "0", "65", "1"].as_slice(), "refused words"),
+        (["made", "0", "1", "0"].as_slice(), "refused words"),
+        (["made", "0", "1", "100001"].as_slice(), "refused words"),
+        (["made", "00", "1", "1"].as_slice(), "refused words"),
+        (["made", "0", "1"].as_slice(), "refused words"),
+        (["made", "0", "1", "1", "1"].as_slice(), "refused words"),
         (["show", "trial"].as_slice(), "show [trial]"),
         ([].as_slice(), "refused words"),
         (["sho"].as_slice(), "refused words"),
