@@ -26,9 +26,10 @@ def rounds(n):
 
 
 def late(n):
-    """One long stream, of which each line gives a byte."""
-    packets = n // 40 + 1
-    return HEAD + "".join(fix(i) for i in range(min(packets, 255))) + f"round {DEVICE} 65536 0 -\n" + "late 1 1\n" * n
+    """Rounds of which the login alone is given at once; each line gives one more byte of the packet that is on its way."""
+    each = 1000
+    cycles = (f"round {DEVICE} 65536 17 -\n" + f"late {c} 1\n" * each + f"close {c}\n" for c in range(1, n // each + 1))
+    return HEAD + "".join(fix(i) for i in range(42)) + "".join(cycles)
 
 
 def power(n):
