@@ -5,6 +5,8 @@
 #[cfg(test)]
 mod hosts;
 #[cfg(test)]
+mod kept;
+#[cfg(test)]
 mod made;
 #[cfg(test)]
 mod rows;

@@ -13,7 +13,7 @@ fn printed<R: Threads + Wait + Sync>(rt: &R, alloc: Global, line: &str) -> Optio
 
 // Whether these words are in the line.
 fn has(line: &[u8], words: &[u8]) -> bool {
-    line.windows(words.len()).any(|part| part == words)
+    !words.is_empty() && line.windows(words.len()).any(|part| part == words)
 }
 
 #[test]

@@ -66,44 +66,8 @@ const ONE_ON_FLASH: &str =
 const SECOND_DONE: &str =
     "connection 2 356307042441013 device done 1 server ended up 62 62 down 5 5\n";
 
-/// A script and its report, each in parts, with the status. The report is full, or brief.
-#[derive(Clone, Copy)]
-struct Row<'a> {
-    script: &'a [&'a str],
-    brief: bool,
-    status: u8,
-    printed: &'a [&'a str],
-}
-
-/// A script whose full report is printed.
-fn full<'a>(script: &'a [&'a str], printed: &'a [&'a str]) -> Row<'a> {
-    Row {
-        script,
-        brief: false,
-        status: 0,
-        printed,
-    }
-}
-
-/// A script whose brief report is printed.
-fn brief<'a>(script: &'a [&'a str], printed: &'a [&'a str]) -> Row<'a> {
-    Row {
-        script,
-        brief: true,
-        status: 0,
-        printed,
-    }
-}
-
-/// A text that is refused.
-fn refused<'a>(script: &'a [&'a str], printed: &'a [&'a str]) -> Row<'a> {
-    Row {
-        script,
-        brief: false,
-        status: 3,
-        printed,
-    }
-}
+/// A script and its report, each in parts.
+type Row<'a> = (&'a [&'a str], &'a [&'a str]);
 
 // The parts, joined.
 fn joined(alloc: Global, parts: &[&str]) -> Option<Vec<u8>> {
@@ -114,23 +78,6 @@ fn joined(alloc: Global, parts: &[&str]) -> Option<Vec<u8>> {
     Some(all)
 }
 
-// Plays it, and gives the host back with the status.
-fn played<R: Threads + Wait + Sync>(
-    rt: &R,
-    alloc: Global,
-    row: Row<'_>,
-) -> Option<(MemoryHost, u8)> {
-    let text = joined(alloc, row.script)?;
-    let mut host = host_with(alloc, text.as_slice())?;
-    let line = if row.brief {
-        "trial script --brief"
-    } else {
-        "trial script"
-    };
-    let status = run_line(rt, alloc, &mut host, line)?;
-    Some((host, status))
-}
-
 // How many `device` lines a script's parts have.
 fn devices(script: &[&str]) -> usize {
     script
@@ -139,17 +86,62 @@ fn devices(script: &[&str]) -> usize {
         .count()
 }
 
+// Whether the text went back, and where there was a trial, a bench for the server and one for each device, and an outcome is kept.
+fn is_returned(host: &MemoryHost, script: &[&str], is_played: bool) -> bool {
+    let benches = host.benches_back().len();
+    let is_back = if is_played {
+        benches.checked_sub(1) == Some(devices(script))
+    } else {
+        benches == 0
+    };
+    is_back && host.texts_back().len() == 1 && host.outcome().is_some() == is_played
+}
+
+// Whether a script is answered by its report, and with this status.
+fn is_answered<R: Threads + Wait + Sync>(
+    rt: &R,
+    alloc: Global,
+    line: &str,
+    status: u8,
+    row: &Row<'_>,
+) -> Option<bool> {
+    let text = joined(alloc, row.0)?;
+    let printed = joined(alloc, row.1)?;
+    let mut host = host_with(alloc, text.as_slice())?;
+    let got = run_line(rt, alloc, &mut host, line)?;
+    Some(
+        got == status
+            && host.sink().written() == printed.as_slice()
+            && is_returned(&host, row.0, status == 0),
+    )
+}
+
+// How many rows are answered as they are written down, up to the first that isn't.
+fn answered<R: Threads + Wait + Sync>(
+    rt: &R,
+    alloc: Global,
+    line: &str,
+    status: u8,
+    rows: &[Row<'_>],
+) -> usize {
+    for i in 0..rows.len() {
+        if is_answered(rt, alloc, line, status, &rows[i]) != Some(true) {
+            return i;
+        }
+    }
+    rows.len()
+}
+
 #[test]
-fn reported_as_written_down(rt: HostRuntime) {
-    let rows = [
+fn whole_rounds_bring_what_is_held(rt: HostRuntime) {
+    let rows: &[Row<'_>] = &[
         // nothing, and a device alone
-        full(&[], &[]),
-        brief(&[], &["connections 0\n"]),
-        full(
+        (&[], &[]),
+        (
             &[DEVICE],
             &["device 356307042441013 acquired 0 cut 0 overwritten 0 flash 0 archived 0\n"],
         ),
-        full(
+        (
             &[DEVICE, ROUND],
             &[
                 "device 356307042441013 acquired 0 cut 0 overwritten 0 flash 0 archived 0\n",
@@ -157,7 +149,7 @@ fn reported_as_written_down(rt: HostRuntime) {
             ],
         ),
         // three records are brought in one packet
-        full(
+        (
             &[DEVICE, FIX_0, FIX_1, FIX_2, "round 356307042441013 7 - -\n"],
             &[
                 "device 356307042441013 acquired 3 cut 0 overwritten 0 flash 0 archived 3\n",
@@ -170,15 +162,8 @@ fn reported_as_written_down(rt: HostRuntime) {
                 "connection 1 356307042441013 device done 3 server ended up 122 122 down 5 5\n",
             ],
         ),
-        brief(
-            &[DEVICE, FIX_0, FIX_1, FIX_2, "round 356307042441013 7 - -\n"],
-            &[
-                "device 356307042441013 acquired 3 cut 0 overwritten 0 flash 0 archived 3\n",
-                "connections 1\n",
-            ],
-        ),
         // equal records are one in the archive
-        full(
+        (
             &[DEVICE, FIX_0, FIX_1, FIX_0, "round 356307042441013 7 - -\n"],
             &[
                 "device 356307042441013 acquired 2 cut 0 overwritten 0 flash 0 archived 2\n",
@@ -189,8 +174,32 @@ fn reported_as_written_down(rt: HostRuntime) {
                 "connection 1 356307042441013 device done 3 server ended up 122 122 down 5 5\n",
             ],
         ),
+    ];
+    let count = answered(&rt, rt.alloc(), "trial script", 0, rows);
+    assert_eq!(rt; count, rows.len());
+}
+
+#[test]
+fn brief_report_has_counts_alone(rt: HostRuntime) {
+    let rows: &[Row<'_>] = &[
+        (&[], &["connections 0\n"]),
+        (
+            &[DEVICE, FIX_0, FIX_1, FIX_2, "round 356307042441013 7 - -\n"],
+            &[
+                "device 356307042441013 acquired 3 cut 0 overwritten 0 flash 0 archived 3\n",
+                "connections 1\n",
+            ],
+        ),
+    ];
+    let count = answered(&rt, rt.alloc(), "trial script --brief", 0, rows);
+    assert_eq!(rt; count, rows.len());
+}
+
+#[test]
+fn broken_rounds_lose_nothing(rt: HostRuntime) {
+    let rows: &[Row<'_>] = &[
         // the count is cut, and its records are sent again
-        full(
+        (
             &[DEVICE, FIX_0, "round 356307042441013 64 - 4\n", ROUND],
             &[
                 ONE_ARCHIVED,
@@ -201,7 +210,7 @@ fn reported_as_written_down(rt: HostRuntime) {
             ],
         ),
         // the rest of a packet comes late, after its records were sent again
-        full(
+        (
             &[
                 DEVICE,
                 FIX_0,
@@ -218,7 +227,7 @@ fn reported_as_written_down(rt: HostRuntime) {
             ],
         ),
         // it comes late in part, and then the server sees the end
-        full(
+        (
             &[
                 DEVICE,
                 FIX_0,
@@ -233,8 +242,30 @@ fn reported_as_written_down(rt: HostRuntime) {
                 "connection 1 356307042441013 device broken server inside 28 up 62 45 down 1 1\n",
             ],
         ),
+        // a stranger
+        (
+            &[
+                "device 356307042441013 8 16 oldest 1000 0 0 0 stranger\n",
+                FIX_0,
+                ROUND,
+            ],
+            &[
+                ONE_ON_FLASH,
+                ACQUIRED_0,
+                FLASH_0,
+                "connection 1 356307042441013 device refused server unknown up 17 17 down 1 1\n",
+            ],
+        ),
+    ];
+    let count = answered(&rt, rt.alloc(), "trial script", 0, rows);
+    assert_eq!(rt; count, rows.len());
+}
+
+#[test]
+fn full_ring_lists_what_it_overwrites(rt: HostRuntime) {
+    let rows: &[Row<'_>] = &[
         // a ring of two slots overwrites
-        full(
+        (
             &[TWO_SLOTS, FIX_0, FIX_1, FIX_2],
             &[
                 "device 356307042441013 acquired 3 cut 0 overwritten 1 flash 2 archived 0\n",
@@ -246,7 +277,7 @@ fn reported_as_written_down(rt: HostRuntime) {
                 FLASH_2,
             ],
         ),
-        full(
+        (
             &[TWO_SLOTS, FIX_0, FIX_1, FIX_2, "drain 356307042441013 64\n"],
             &[
                 "device 356307042441013 acquired 3 cut 0 overwritten 1 flash 0 archived 2\n",
@@ -260,12 +291,20 @@ fn reported_as_written_down(rt: HostRuntime) {
             ],
         ),
         // a power-up forgets the last fix, and the equal record is listed once
-        full(
+        (
             &[TWO_SLOTS, FIX_0, FIX_0, "power 356307042441013\n", FIX_0],
             &[ONE_ON_FLASH, ACQUIRED_0, FLASH_0],
         ),
+    ];
+    let count = answered(&rt, rt.alloc(), "trial script", 0, rows);
+    assert_eq!(rt; count, rows.len());
+}
+
+#[test]
+fn server_that_dies_counts_again(rt: HostRuntime) {
+    let rows: &[Row<'_>] = &[
         // the server's power is lost before the packet is archived, after that, and after the answer
-        full(
+        (
             &[DEVICE, FIX_0, "fuse server 1 open\n", ROUND, ROUND],
             &[
                 ONE_ARCHIVED,
@@ -275,7 +314,7 @@ fn reported_as_written_down(rt: HostRuntime) {
                 SECOND_DONE,
             ],
         ),
-        full(
+        (
             &[DEVICE, FIX_0, "fuse server 3 new\n", ROUND],
             &[
                 "device 356307042441013 acquired 1 cut 0 overwritten 0 flash 1 archived 1\n",
@@ -285,7 +324,7 @@ fn reported_as_written_down(rt: HostRuntime) {
                 "connection 1 356307042441013 device broken server medium up 62 62 down 1 1\n",
             ],
         ),
-        full(
+        (
             &[DEVICE, FIX_0, "fuse server 3 new\n", ROUND, ROUND],
             &[
                 ONE_ARCHIVED,
@@ -295,7 +334,7 @@ fn reported_as_written_down(rt: HostRuntime) {
                 SECOND_DONE,
             ],
         ),
-        full(
+        (
             &[DEVICE, FIX_0, "fuse server 4 keep\n", ROUND],
             &[
                 ONE_ARCHIVED,
@@ -304,8 +343,16 @@ fn reported_as_written_down(rt: HostRuntime) {
                 "connection 1 356307042441013 device done 1 server ended up 62 62 down 5 5\n",
             ],
         ),
+    ];
+    let count = answered(&rt, rt.alloc(), "trial script", 0, rows);
+    assert_eq!(rt; count, rows.len());
+}
+
+#[test]
+fn device_that_dies_lists_what_it_cut(rt: HostRuntime) {
+    let rows: &[Row<'_>] = &[
         // the device's power is lost inside a store, after it, and while sent records are released
-        full(
+        (
             &[DEVICE, "fuse 356307042441013 2 keep\n", FIX_0],
             &[
                 "device 356307042441013 acquired 1 cut 1 overwritten 0 flash 0 archived 0\n",
@@ -313,7 +360,7 @@ fn reported_as_written_down(rt: HostRuntime) {
                 CUT_0,
             ],
         ),
-        full(
+        (
             &[DEVICE, "fuse 356307042441013 2 new\n", FIX_0],
             &[
                 "device 356307042441013 acquired 1 cut 1 overwritten 0 flash 1 archived 0\n",
@@ -322,11 +369,11 @@ fn reported_as_written_down(rt: HostRuntime) {
                 FLASH_0,
             ],
         ),
-        full(
+        (
             &[DEVICE, "fuse 356307042441013 4 keep\n", FIX_0],
             &[ONE_ON_FLASH, ACQUIRED_0, FLASH_0],
         ),
-        full(
+        (
             &[DEVICE, FIX_0, "fuse 356307042441013 0 keep\n", ROUND, ROUND],
             &[
                 ONE_ARCHIVED,
@@ -336,8 +383,16 @@ fn reported_as_written_down(rt: HostRuntime) {
                 SECOND_DONE,
             ],
         ),
+    ];
+    let count = answered(&rt, rt.alloc(), "trial script", 0, rows);
+    assert_eq!(rt; count, rows.len());
+}
+
+#[test]
+fn settings_decide_what_is_acquired(rt: HostRuntime) {
+    let rows: &[Row<'_>] = &[
         // a turn, of a vehicle that is fast enough
-        full(
+        (
             &[
                 "device 356307042441013 16 16 oldest 0 0 10 0 known\n",
                 "fix 356307042441013 1560161086000 0 0 0 359 5 50 0\n",
@@ -354,7 +409,7 @@ fn reported_as_written_down(rt: HostRuntime) {
             ],
         ),
         // the ignition changes
-        full(
+        (
             &[
                 "device 356307042441013 8E 16 oldest 0 0 0 0 known\n",
                 "io 356307042441013 239 1 change 0 0 1\n",
@@ -370,50 +425,27 @@ fn reported_as_written_down(rt: HostRuntime) {
                 "flash 356307042441013 8E 0000016b40d8ee180100000000000000000000000000000000ef0001000100ef010000000000000000\n",
             ],
         ),
-        // a stranger
-        full(
-            &[
-                "device 356307042441013 8 16 oldest 1000 0 0 0 stranger\n",
-                FIX_0,
-                ROUND,
-            ],
-            &[
-                ONE_ON_FLASH,
-                ACQUIRED_0,
-                FLASH_0,
-                "connection 1 356307042441013 device refused server unknown up 17 17 down 1 1\n",
-            ],
-        ),
-        // texts that are refused
-        refused(
+    ];
+    let count = answered(&rt, rt.alloc(), "trial script", 0, rows);
+    assert_eq!(rt; count, rows.len());
+}
+
+#[test]
+fn first_fault_is_printed(rt: HostRuntime) {
+    let rows: &[Row<'_>] = &[
+        (
             &[DEVICE, "fixx 356307042441013\n"],
             &["refused line 2 UnknownWord\n"],
         ),
-        refused(&[FIX_0], &["refused line 1 NoDevice\n"]),
-        refused(
+        (&[FIX_0], &["refused line 1 NoDevice\n"]),
+        (
             &["device 356307042441013 8 0 oldest 0 0 0 0 known\n"],
             &["refused line 1 BadNumber\n"],
         ),
-        refused(&[DEVICE, "late 1 -\n"], &["refused line 2 NoConnection\n"]),
+        (&[DEVICE, "late 1 -\n"], &["refused line 2 NoConnection\n"]),
     ];
-    for row in rows {
-        let (host, status) = played(&rt, rt.alloc(), row).expect(&rt, "memory");
-        let printed = joined(rt.alloc(), row.printed).expect(&rt, "memory");
-        assert_eq!(rt; host.sink().written(), printed.as_slice());
-        assert_eq!(rt; status, row.status);
-        assert_eq!(rt; host.texts_back().len(), 1, "the text went back");
-        let benches = if status == 0 {
-            devices(row.script) + 1
-        } else {
-            0
-        };
-        assert_eq!(rt; host.benches_back().len(), benches, "so did the benches");
-        assert_eq!(rt;
-            host.outcome().is_some(),
-            status == 0,
-            "an outcome is kept where one is reported"
-        );
-    }
+    let count = answered(&rt, rt.alloc(), "trial script", 3, rows);
+    assert_eq!(rt; count, rows.len());
 }
 
 /// The first of 43 fixes one second apart.
