@@ -9,4 +9,6 @@ mod kept;
 #[cfg(test)]
 mod made;
 #[cfg(test)]
+mod replay;
+#[cfg(test)]
 mod rows;
