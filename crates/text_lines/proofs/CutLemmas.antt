@@ -1,12 +1,27 @@
 -- A text cut at the first such byte.
-use Rattle.std.proofs.Common.{◌≡◌, ◌==◌, ℕ, ◌+◌, ◌-◌, ◌<◌, ◌≤◌, Bool, cond, nat_lt, List, [], ◌∷◌, take, drop, length, Option, Some, None, option_map, unwrap_or, refl, ap, sym, ◌∙◌, ne_eqb, false, arith}
+use Rattle.std.proofs.Common.{◌≡◌, ◌==◌, ℕ, ◌+◌, ◌-◌, ◌<◌, ◌≤◌, Bool, cond, nat_lt, slice_index, true, List, [], ◌∷◌, take, drop, length, Option, Some, None, option_map, unwrap_or, refl, ap, sym, ◌∙◌, ne_eqb, false, arith}
 use Rattle.std.specs.List.{position, position_or_len, slice_split}
+use Rattle.memchr.specs.Find.{IsFirstByte, is_byte}
 use Rattle.text_lines.specs.Cuts.{cut_at}
 use Rattle.std.specs.Str.Lines.{lines, lines_of_parts, strip_carriage_return}
 use Rattle.std.proofs.lemmas.Bool.Decides.{nat_tests}
 use Rattle.std.proofs.lemmas.List.Quantifiers.{position-Some}
 use Rattle.std.proofs.lemmas.List.Splits.{length-slice_split, slice_split_first, slice_split_none}
 use Rattle.std.proofs.lemmas.List.Sums.{fails_before_first, position_or_len_is}
+
+not_so : (b : Bool) → (b ≡ true → ⊥) → b ≡ false
+not_so true never = absurd (never refl)
+not_so false _ = refl
+
+placed : (xs : List ℕ) (byte i : ℕ) (b : Bool) → position_or_len (is_byte byte) xs ≡ i → nat_lt i (length xs) ≡ b → cond b (Some i) None ≡ position (λ b. b == byte) xs
+placed xs byte i b e t = ap (λ c. cond c (Some i) None) (sym t) ∙ ap (λ n. cond (nat_lt n (length xs)) (Some n) None) (sym e)
+
+-- the first place that a search finds is the first such place
+pub first_place : (byte : ℕ) (xs : List ℕ) (found : Option ℕ) → IsFirstByte (is_byte byte) xs found → found ≡ position (λ b. b == byte) xs
+first_place byte xs None none = placed xs byte (length xs) false
+    (position_or_len_is (is_byte byte) xs (length xs) 0 (omega arith) (λ k below. not_so (is_byte byte (slice_index xs k)) (none k (omega arith) below)) (λ past. absurd (omega (arith, past)))) (grind (arith, nat_tests))
+first_place byte xs (Some i) first = placed xs byte i true
+    (position_or_len_is (is_byte byte) xs i 0 (omega (arith, first.0.high)) (λ k below. not_so (is_byte byte (slice_index xs k)) (first.0.before k (omega arith) below)) (λ _. first.1)) (let high : i < length xs = first.0.high in grind (arith, nat_tests))
 
 place_is : (byte : ℕ) (xs : List ℕ) (i : ℕ) → position (λ b. b == byte) xs ≡ Some i → position_or_len (λ b. b == byte) xs ≡ i
 place_is byte xs i h =

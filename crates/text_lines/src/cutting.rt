@@ -3,6 +3,8 @@ ghost use Rattle.std.specs.List.{position};
 ghost use Rattle.std.specs.Str.Lines.{lines, strip_carriage_return};
 ghost use Rattle.text_lines.specs.Cuts.{cut_at};
 
+use memchr::memchr;
+
 /// What comes before the first such byte of a text and after it; None where there is none.
 pub fn split_once(byte: u8, text: &[u8]) -> Option<(&[u8], &[u8])>
     ensures parts { option_map (λ p. (p.0.now, p.1.now)) result ≡ cut_at byte text.now }
@@ -18,7 +20,7 @@ fn place_of(byte: u8, text: &[u8]) -> Option<usize>
     ensures place { result ≡ position (λ b. b == byte) text.now }
     ensures within { MatchOption result (Unit {0}) (λ i. i < length text.now) }
 {
-    text.iter().position(|b| *b == byte)
+    memchr(byte, text)
 }
 
 /// The first line of a text that isn't empty, without its end (LF, or CR and LF), and the text after it.
