@@ -46,12 +46,3 @@ nx-at (h ∷ hs) bytes (suc i) lt =
     let s : sizes (h ∷ take i hs) ≡ h.1 + sizes (take i hs) = sum_by-cons (λ x. x.1) h (take i hs) in
     nx-at hs (drop h.1 bytes) i (omega arith)
     ∙ ap (λ b. ((get_or hs i (0, 0)).0, take (get_or hs i (0, 0)).1 b)) (drop-drop (sizes (take i hs)) h.1 bytes ∙ ap (λ n. drop n bytes) (sym s))
-
--- the first elements' bytes and those of the next are within them all
-pub sizes-within : (heads : List (ℕ × ℕ)) (i : ℕ) → i < length heads → sizes (take i heads) + (get_or heads i (0, 0)).1 ≤ sizes heads
-sizes-within [] i h = absurd (omega arith)
-sizes-within (h ∷ hs) zero lt = let s = sum_by-cons (λ (x : ℕ × ℕ). x.1) h hs in omega (arith, s)
-sizes-within (h ∷ hs) (suc i) lt =
-    let s = sum_by-cons (λ (x : ℕ × ℕ). x.1) h hs in
-    let t = sum_by-cons (λ (x : ℕ × ℕ). x.1) h (take i hs) in
-    omega (arith, s, t, sizes-within hs i (omega arith))

@@ -125,7 +125,7 @@ fn the_longest(rt: HostRuntime) -> Result<(), Fail> {
     Ok(())
 }
 
-fn faults() -> [(&'static [u8], Way, FaultKind, u32); 10] {
+fn faults() -> [(&'static [u8], Way, FaultKind, u32); 15] {
     [
         (
             b"\x0d\x01\x06\0\0\0\x06\0\0\0\x10ok\x01",
@@ -156,6 +156,36 @@ fn faults() -> [(&'static [u8], Way, FaultKind, u32); 10] {
             Way::Down,
             FaultKind::ImeiDigits,
             7,
+        ),
+        (
+            b"\x0e\x01\x05\0\0\0\x0e\x03\x52\x09\x30\x81\x45\x22\xa1getver\x01",
+            Way::Down,
+            FaultKind::ImeiDigits,
+            14,
+        ),
+        (
+            b"\x0d\x01\x06\0\0\0\x03\0\0\0\x01",
+            Way::Up,
+            FaultKind::CommandSize,
+            3,
+        ),
+        (
+            b"\x0c\x01\x05\0\0\0\x07getinfo\x02",
+            Way::Down,
+            FaultKind::Quantity,
+            14,
+        ),
+        (
+            b"\x0c\x01\x06\0\0\0\x07getinfo\x01",
+            Way::Down,
+            FaultKind::CommandType,
+            2,
+        ),
+        (
+            b"\x0c\x01\x05\0\0\0\x07getinfo\x01",
+            Way::Up,
+            FaultKind::CommandType,
+            2,
         ),
         (
             b"\x0c\x01\x05\0\0\0\0\x02",

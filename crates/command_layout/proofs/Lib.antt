@@ -2,6 +2,5 @@ pub mod AnswerLaws
 pub mod CommandFills
 pub mod CommandLaws
 pub mod ContentFills
-pub mod Examples
 pub mod Exports
 pub mod ImeiFills

@@ -205,8 +205,3 @@ pub frame_broken : (m : FrameMachine) (kind : FaultKind) (p b : ℕ) (after_answ
 frame_broken m kind p b after_answer bytes place i e =
     let is : bytes ++ b ∷ [] ≡ i.zeros ++ (i.more ++ b ∷ []) = ap (λ x. x ++ b ∷ []) i.is ∙ append_assoc i.zeros i.more (b ∷ []) in
     in_frame_judged after_answer (bytes ++ b ∷ []) i.zeros (i.more ++ b ∷ []) place is i.four i.zero ∙ ap (λ v. map_verdict says_down_frame v) e
-
-pub frame_more : (m n : FrameMachine) (b : ℕ) (after_answer : Bool) (bytes : List ℕ) → after_answer ≡ true → InFrame m bytes → frame_machine.HasTaken n Down (bytes ++ b ∷ []) → HasTaken (machine.Frame n) after_answer (bytes ++ b ∷ [])
-frame_more m n b after_answer bytes place i has =
-    let is : bytes ++ b ∷ [] ≡ i.zeros ++ (i.more ++ b ∷ []) = ap (λ x. x ++ b ∷ []) i.is ∙ append_assoc i.zeros i.more (b ∷ []) in
-    (place, record { zeros = i.zeros; more = i.more ++ b ∷ []; is = is; four = i.four; zero = i.zero; has = has })

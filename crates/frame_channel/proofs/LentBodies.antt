@@ -5,14 +5,12 @@ use Rattle.layout.proofs.Numbers.{bytes-append, bytes-take}
 use Rattle.frame_layout.specs.Values.{order, packet, response}
 use Rattle.frame_layout.proofs.Exports.{down_item_is_said, up_item_is_said}
 use Rattle.item_streams.specs.Readers.{Reader, more}
-use Rattle.frame_channel.specs.DataFrames.{IsNext}
 use Rattle.frame_channel.specs.DownPushes.{IsLentDown, PushedDown, decided_down}
 use Rattle.frame_channel.specs.UpPushes.{IsLentUp, PushedUp, decided_up}
 use Rattle.frame_channel.specs.declared.down_item.DownItem.{DownItem}
 use Rattle.frame_channel.specs.declared.down_item.DownItem.TheVariants as down_item
 use Rattle.frame_channel.specs.declared.up_item.UpItem.{UpItem}
 use Rattle.frame_channel.specs.declared.up_item.UpItem.TheVariants as up_item
-use Rattle.record_layout.specs.declared.head.PacketHead.{PacketHead}
 
 pub up_lent : (old new : Reader) (piece : List ℕ) (n : ℕ) (item : UpItem) → AreBytes old.have → AreBytes piece → PushedUp old new piece n item → IsLentUp item new.body
 up_lent old new piece n up_item.More have bytes p = tt
@@ -45,7 +43,3 @@ undecided_down (down_item.Login n) body e = absurd (cc)
 undecided_down (down_item.Count n) body e = absurd (cc)
 undecided_down down_item.Order body e = absurd (cc)
 undecided_down (down_item.Broken found) body e = absurd (cc)
-
--- the body of a frame that was taken at once
-pub next_lent : (s : Reader) (head : PacketHead) (body piece : List ℕ) → IsNext s head body piece → IsLentUp (up_item.Packet head) body
-next_lent s head body piece next = record { is = next.begins.is.of_body; fits = next.begins.is.fits }

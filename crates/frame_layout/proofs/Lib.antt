@@ -1,6 +1,5 @@
 pub mod Checksum
 pub mod DownLaws
-pub mod Examples
 pub mod Exports
 pub mod FrameFills
 pub mod KindFills

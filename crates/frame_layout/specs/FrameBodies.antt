@@ -1,7 +1,7 @@
 -- The bodies of frames (Teltonika, Data Sending Protocols: data bodies and Codecs 12 to 15; which codec id passes which way, and
 -- the limits of lengths, are this project's own).
-use Rattle.std.specs.Prelude.{ℕ, List}
-use Rattle.layout.specs.Rows.{Rows, Verdict, judge, body}
+use Rattle.std.specs.Prelude.{ℕ}
+use Rattle.layout.specs.Rows.{Rows, body}
 use Rattle.layout.specs.EitherRows.{either_rows}
 use Rattle.layout.specs.MappedRows.{map_value}
 use Rattle.record_layout.specs.PacketRows.{packet_rows}
@@ -24,7 +24,3 @@ body_kind_rows Down total = command_body_rows Down total
 abbrev pub longest_body : Way → ℕ
 longest_body Up = 65535
 longest_body Down = 1268
-
--- the verdict on the first bytes of a body of N bytes
-unfoldable pub body_verdict : Way → ℕ → List ℕ → Verdict BodyKind
-body_verdict way total bytes = judge (body total (body_kind_rows way total)) 0 bytes

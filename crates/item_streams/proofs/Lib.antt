@@ -5,4 +5,3 @@ pub mod ReaderSteps
 pub mod Reading
 pub mod StreamLaws
 pub mod StreamSteps
-pub mod Worked

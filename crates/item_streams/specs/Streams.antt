@@ -73,10 +73,6 @@ read_items (suc most) first later place bytes =
 abbrev pub reading_of : {V : Type 0} → Rows V → Rows V → ℕ → List ℕ → Reading V
 reading_of first later place bytes = read_items (length bytes) first later place bytes
 
--- the items of a stream
-abbrev pub items_of : {V : Type 0} → Rows V → Rows V → List ℕ → List (Item V)
-items_of first later bytes = (reading_of first later 0 bytes).items
-
 -- the bytes after a stream's items
 abbrev pub rest_of : {V : Type 0} → Rows V → Rows V → List ℕ → List ℕ
 rest_of first later bytes = (reading_of first later 0 bytes).rest

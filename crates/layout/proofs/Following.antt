@@ -1,6 +1,5 @@
 -- Rows that are followed by others, for code that goes over them field by field.
-use Rattle.std.proofs.Common.{◌≡◌, ℕ, List, Option, Some, refl}
-use Rattle.avl_values.specs.declared.fault.FaultKind.{FaultKind}
+use Rattle.std.proofs.Common.{◌≡◌, ℕ, List, Some, refl}
 use Rattle.layout.specs.Rows.{Rows, done, refuse, row}
 use Rattle.layout.specs.Fields.{followed_by}
 use Rattle.layout.specs.Next.{width_of, rule_of, rows_after}
@@ -8,11 +7,6 @@ use Rattle.layout.specs.Next.{width_of, rule_of, rows_after}
 pub follow_done : {V W : Type 0} (v : V) (after : V → Rows W) → followed_by (done v) after ≡ after v
 unfolding followed_by
 follow_done v after = refl
-
-pub follow_row : {V W : Type 0} (width : ℕ) (rule : List ℕ → Option FaultKind) (rest : List ℕ → Rows V) (after : V → Rows W)
-    → followed_by (row width rule rest) after ≡ row width rule (λ field. followed_by (rest field) after)
-unfolding followed_by
-follow_row width rule rest after = refl
 
 pub follow_width : {V W : Type 0} (rows : Rows V) (after : V → Rows W) (n : ℕ) → width_of rows ≡ Some n → width_of (followed_by rows after) ≡ Some n
 unfolding followed_by

@@ -73,11 +73,6 @@ nests_refuse {V} {W} kind room seen after place bytes =
     ap (λ r. judge r place bytes) (within_refuse room kind after) ∙ judge_refuse kind place bytes
     ∙ sym (ap (λ u. and_then u next) (ap (λ r. judge r place bytes) (within_refuse room kind (λ x. done x)) ∙ judge_refuse kind place bytes))
 
-with_bytes_row : {V : Type 0} (width : ℕ) (rule : List ℕ → Option FaultKind) (rest : List ℕ → Rows V) (seen : List ℕ)
-    → with_bytes seen (row width rule rest) ≡ row width rule (λ field. with_bytes (seen ++ field) (rest field))
-unfolding with_bytes
-with_bytes_row width rule rest seen = refl
-
 nests_over : {V W : Type 0} (room width : ℕ) (rule : List ℕ → Option FaultKind) (rest : List ℕ → Rows V) (seen : List ℕ) (after : V × List ℕ → Rows W) (place : ℕ) (bytes : List ℕ) → room < width
     → Nests (row width rule rest) room seen after place bytes
 unfolding with_bytes

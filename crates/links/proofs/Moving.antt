@@ -1,6 +1,6 @@
 -- One move after another.
 use Rattle.std.proofs.Common.{◌≡◌, ℕ, ◌+◌, ◌-◌, List, [], ◌++◌, length, take, drop, Option, Some, None, refl, sym, ap, subst, ◌∙◌, append_assoc, append-nil, arith}
-use Rattle.std.proofs.lemmas.List.{append_cancel_left, length-drop}
+use Rattle.std.proofs.lemmas.List.{length-drop}
 use Rattle.std.proofs.Math.Seq.{take-add, take-length}
 use Rattle.links.specs.Links.{Traffic, LinkState, with_more, Moves, IsLater}
 
@@ -21,13 +21,6 @@ moves_none (Some t) = ap (λ (u : Traffic). Some u) (same_traffic _ _ _ _ (sym (
 -- as other bytes that are the same
 pub moves_as : (a b c d : List ℕ) (x y : Option Traffic) → a ≡ c → b ≡ d → Moves a b x y → Moves c d x y
 moves_as a b c d x y p q m = subst (λ (z : List ℕ × List ℕ). Moves z.0 z.1 x y) (λ i. (p i, q i)) m
-
--- Where the bytes are told, a link took and wrote what it did, and no other bytes.
-pub moves_one_way : (a b c d : List ℕ) (t : Traffic) (y : Option Traffic) → Moves a b (Some t) y → Moves c d (Some t) y → (a ≡ c) × (b ≡ d)
-moves_one_way a b c d t y p q =
-    let same : Some (with_more a b t) ≡ Some (with_more c d t) = sym p ∙ q in
-    let both : with_more a b t ≡ with_more c d t = cc in
-    (append_cancel_left t.taken a c (ap (λ (u : Traffic). u.taken) both), append_cancel_left t.written b d (ap (λ (u : Traffic). u.written) both))
 
 -- What calls may do, again and again.
 
@@ -53,10 +46,6 @@ part_then d n bytes x y z p q =
     moves_as [] (take d bytes ++ take n (take (length bytes - d) (drop d bytes))) [] (take (d + n) bytes) x z refl
     (ap (λ (b : List ℕ). take d bytes ++ take n b) (rest_whole d bytes) ∙ sym (take-add d n bytes))
     (moves_then [] (take d bytes) [] (take n (take (length bytes - d) (drop d bytes))) x y z p q)
-
--- a write that failed adds nothing
-pub part_failed : (d : ℕ) (bytes : List ℕ) (x y z : Option Traffic) → Moves [] (take d bytes) x y → Moves [] [] y z → Moves [] (take d bytes) x z
-part_failed d bytes x y z p q = moves_as [] (take d bytes ++ []) [] (take d bytes) x z refl (append-nil (take d bytes)) (moves_then [] (take d bytes) [] [] x y z p q)
 
 pub all_parts : (d : ℕ) (bytes : List ℕ) (x y : Option Traffic) → d ≡ length bytes → Moves [] (take d bytes) x y → Moves [] bytes x y
 all_parts d bytes x y e p = moves_as [] (take d bytes) [] bytes x y refl (ap (λ (k : ℕ). take k bytes) e ∙ take-length bytes) p

@@ -1,10 +1,9 @@
 -- Groups of elements, one element or one group further.
-use Rattle.std.proofs.Common.{◌≡◌, ℕ, zero, suc, ◌+◌, ◌-◌, ◌*◌, ◌<◌, ◌≤◌, ◌^◌, List, [], ◌∷◌, ◌++◌, length, get_or, drop, sym, ap, ◌∙◌, arith}
+use Rattle.std.proofs.Common.{◌≡◌, ℕ, zero, suc, ◌+◌, ◌-◌, ◌*◌, ◌<◌, List, [], ◌∷◌, ◌++◌, length, get_or, drop, sym, ap, ◌∙◌, arith}
 use Rattle.std.proofs.lemmas.List.{drop-drop}
 use Rattle.avl_values.specs.IoElement.{IoElement}
-use Rattle.avl_values.specs.Width.{bytes_of, limit}
+use Rattle.avl_values.specs.Width.{bytes_of}
 use Rattle.avl_values.specs.declared.codec.Codec.{Codec}
-use Rattle.avl_values.specs.declared.codec.Codec.TheVariants.{C8, C8E, C16}
 use Rattle.avl_values.specs.declared.width.Width.{Width}
 use Rattle.record_layout.specs.Table.{count_width, id_width}
 use Rattle.record_codecs.specs.Elements.{front_number, behind, pairs_in, behind_pairs, groups_in, behind_groups}
@@ -26,9 +25,6 @@ next_group codec w n groups bytes first ws count rest none is counted behind_is 
     left_none codec w n groups bytes none ∙ ap (λ g. groups_in codec g bytes) is
     ∙ ap (λ k. left_of codec first k ws (behind (count_width codec) bytes)) (sym counted) ∙ ap (λ b. left_of codec first count ws b) (sym behind_is)
 
-pub no_group : (codec : Codec) (w : Width) (n : ℕ) (groups : List Width) (bytes : List ℕ) → n ≡ 0 → groups ≡ [] → left_of codec w n groups bytes ≡ []
-no_group codec w n groups bytes none is = left_none codec w n groups bytes none ∙ ap (λ g. groups_in codec g bytes) is
-
 -- the next pair
 pub next_pair : (codec : Codec) (w : Width) (n : ℕ) (ws : List Width) (bytes : List ℕ) (rest : List ℕ) → 0 < n → rest ≡ behind w (behind (id_width codec) bytes)
     → left_of codec w n ws bytes ≡ record { id = front_number (id_width codec) bytes; width = w; value = front_number w (behind (id_width codec) bytes) } ∷ left_of codec w (n - 1) ws rest
@@ -49,13 +45,3 @@ pub past_group : (codec : Codec) (ws : List Width) (i : ℕ) (d : Width) (bytes 
 past_group codec [] i d bytes rest lt is = absurd (omega arith)
 past_group codec (w ∷ ws) zero d bytes rest lt is = ap (behind_groups codec ws) (sym is) ∙ (let e : 1 ≡ 0 + 1 = omega arith in ap (λ k. behind_groups codec (drop k (w ∷ ws)) rest) e)
 past_group codec (w ∷ ws) (suc i) d bytes rest lt is = past_group codec ws i d bytes rest (omega arith) is ∙ (let e : suc (i + 1) ≡ suc i + 1 = omega arith in ap (λ k. behind_groups codec (drop k (w ∷ ws)) rest) e)
-
-pub narrow_id : (codec : Codec) → limit (id_width codec) ≤ 2 ^ 16
-narrow_id C8 = omega arith
-narrow_id C8E = omega arith
-narrow_id C16 = omega arith
-
-pub narrow_count : (codec : Codec) → limit (count_width codec) ≤ 2 ^ 16
-narrow_count C8 = omega arith
-narrow_count C8E = omega arith
-narrow_count C16 = omega arith

@@ -1,6 +1,5 @@
 -- A record's cursor, field by field.
-use Rattle.std.proofs.Common.{◌≡◌, ℕ, ◌+◌, ◌≤◌, ◌<◌, ◌==◌, List, [], ◌∷◌, length, drop, Bool, true, false, not, nat_lt, Option, Some, None, Ok, Err, refl, sym, ap, subst, ◌∙◌, arith}
-use Rattle.std.proofs.lemmas.Bool.{le-ltb}
+use Rattle.std.proofs.Common.{◌≡◌, ℕ, ◌+◌, ◌≤◌, ◌==◌, List, [], ◌∷◌, length, drop, Bool, true, false, not, nat_lt, Option, Some, None, Ok, Err, refl, sym, ap, subst, ◌∙◌, arith}
 use Rattle.avl_values.specs.Width.{bytes_of}
 use Rattle.avl_values.specs.declared.fault.FaultKind.{FaultKind}
 use Rattle.avl_values.specs.declared.fault.FaultKind.TheVariants.{TotalMismatch}
@@ -102,8 +101,3 @@ triples_fail r c i w p field value is width reads fails =
     let n = value_is p field value width reads in
     let ps = drop r.part (parts_of r.codec) in
     subst (λ q. FollowsIn (rows_in (at.Part r q)) field (Err TotalMismatch)) (sym is) (ap (λ k. count_rule ps r.total (r.counted + k)) n ∙ rule_fails ps r.total (r.counted + value) fails)
-
--- a count that isn't the last
-pub counted_on : (ps : List Part) (total n : ℕ) → 0 < length ps → n ≤ total → Some n ≡ counted_with ps total n
-counted_on [] total n some h = absurd (omega arith)
-counted_on (p ∷ ps) total n some h = ap (λ b. some_unless (fault_unless (not b) TotalMismatch) n) (sym (le-ltb total n h))

@@ -1,5 +1,5 @@
 -- The values of a codec's parts are those of a record's value, and the other way round.
-use Rattle.std.proofs.Common.{◌≡◌, ℕ, ◌+◌, ◌^◌, ◌<◌, ◌≤◌, [], length, Bool, true, false, not, None, refl, ap, ◌∙◌, arith, FitsSigned, eq-eqb, ◌==◌, nat_lt}
+use Rattle.std.proofs.Common.{◌≡◌, ℕ, ◌+◌, ◌^◌, ◌<◌, ◌≤◌, List, [], length, Bool, true, false, not, None, refl, ap, ◌∙◌, arith, FitsSigned, eq-eqb, ◌==◌, nat_lt}
 use Rattle.std.specs.Int.{w16, w32, cast_signed, cast_unsigned}
 use Rattle.std.proofs.lemmas.Bool.{le-ltb}
 use Rattle.std.proofs.lemmas.Bool.Decides.{nat_tests}
@@ -51,6 +51,26 @@ signed_32 n h = omega (arith, ints)
 signed_16 : (n : ℕ) → n < 2 ^ 16 → FitsSigned w16 (cast_signed w16 n)
 signed_16 n h = omega (arith, ints)
 
+-- a value of these numbers, of which a record spells the place and the altitude as signed ones
+abbrev made : (time priority lon lat alt angle sats speed event generation : ℕ) (ones twos fours eights : List (ℕ × ℕ)) (nx : List (ℕ × List ℕ)) → RecordValue
+made time priority lon lat alt angle sats speed event generation ones twos fours eights nx = record {
+  time = time;
+  priority = priority;
+  longitude = cast_signed w32 lon;
+  latitude = cast_signed w32 lat;
+  altitude = cast_signed w16 alt;
+  angle = angle;
+  satellites = sats;
+  speed = speed;
+  event = event;
+  generation = generation;
+  ones = ones;
+  twos = twos;
+  fours = fours;
+  eights = eights;
+  nx = nx;
+}
+
 pub has_value : (codec : Codec) (values : PartValues (parts_of codec)) → AllFit (parts_of codec) values → CountsFit (parts_of codec) values 0 0 → HasValue codec values
 has_value C8 (time, (priority, (lon, (lat, (alt, (angle, (sats, (speed, (event, (total, (ones, (twos, (fours, (eights, none)))))))))))))) fit counts =
     let all = is_exactly _ total _ counts.1.1.1.0 in
@@ -60,23 +80,7 @@ has_value C8 (time, (priority, (lon, (lat, (alt, (angle, (sats, (speed, (event, 
     let d : length ones + length twos + length fours + length eights + 0 ≡ total = omega (arith, all) in
     let F : ℕ → ℕ → ℕ → ℕ → PartValues (parts_of C8) = λ x y z t. (time, (priority, (x, (y, (z, (angle, (sats, (speed, (event, (t, (ones, (twos, (fours, (eights, none)))))))))))))) in
     record {
-      value = record {
-        time = time;
-        priority = priority;
-        longitude = cast_signed w32 lon;
-        latitude = cast_signed w32 lat;
-        altitude = cast_signed w16 alt;
-        angle = angle;
-        satellites = sats;
-        speed = speed;
-        event = event;
-        generation = 0;
-        ones = ones;
-        twos = twos;
-        fours = fours;
-        eights = eights;
-        nx = [];
-      };
+      value = made time priority lon lat alt angle sats speed event 0 ones twos fours eights [];
       same = ap (λ x. F x (cast_unsigned w32 (cast_signed w32 lat)) (cast_unsigned w16 (cast_signed w16 alt)) (length ones + length twos + length fours + length eights + 0)) a ∙ ap (λ y. F lon y (cast_unsigned w16 (cast_signed w16 alt)) (length ones + length twos + length fours + length eights + 0)) b ∙ ap (λ z. F lon lat z (length ones + length twos + length fours + length eights + 0)) c ∙ ap (λ t. F lon lat alt t) d;
       longitude = signed_32 lon fit.1.1.0;
       latitude = signed_32 lat fit.1.1.1.0;
@@ -91,23 +95,7 @@ has_value C8E (time, (priority, (lon, (lat, (alt, (angle, (sats, (speed, (event,
     let d : length ones + length twos + length fours + length eights + length nx ≡ total = omega (arith, all) in
     let F : ℕ → ℕ → ℕ → ℕ → PartValues (parts_of C8E) = λ x y z t. (time, (priority, (x, (y, (z, (angle, (sats, (speed, (event, (t, (ones, (twos, (fours, (eights, (nx, none))))))))))))))) in
     record {
-      value = record {
-        time = time;
-        priority = priority;
-        longitude = cast_signed w32 lon;
-        latitude = cast_signed w32 lat;
-        altitude = cast_signed w16 alt;
-        angle = angle;
-        satellites = sats;
-        speed = speed;
-        event = event;
-        generation = 0;
-        ones = ones;
-        twos = twos;
-        fours = fours;
-        eights = eights;
-        nx = nx;
-      };
+      value = made time priority lon lat alt angle sats speed event 0 ones twos fours eights nx;
       same = ap (λ x. F x (cast_unsigned w32 (cast_signed w32 lat)) (cast_unsigned w16 (cast_signed w16 alt)) (length ones + length twos + length fours + length eights + length nx)) a ∙ ap (λ y. F lon y (cast_unsigned w16 (cast_signed w16 alt)) (length ones + length twos + length fours + length eights + length nx)) b ∙ ap (λ z. F lon lat z (length ones + length twos + length fours + length eights + length nx)) c ∙ ap (λ t. F lon lat alt t) d;
       longitude = signed_32 lon fit.1.1.0;
       latitude = signed_32 lat fit.1.1.1.0;
@@ -122,23 +110,7 @@ has_value C16 (time, (priority, (lon, (lat, (alt, (angle, (sats, (speed, (event,
     let d : length ones + length twos + length fours + length eights + 0 ≡ total = omega (arith, all) in
     let F : ℕ → ℕ → ℕ → ℕ → PartValues (parts_of C16) = λ x y z t. (time, (priority, (x, (y, (z, (angle, (sats, (speed, (event, (generation, (t, (ones, (twos, (fours, (eights, none))))))))))))))) in
     record {
-      value = record {
-        time = time;
-        priority = priority;
-        longitude = cast_signed w32 lon;
-        latitude = cast_signed w32 lat;
-        altitude = cast_signed w16 alt;
-        angle = angle;
-        satellites = sats;
-        speed = speed;
-        event = event;
-        generation = generation;
-        ones = ones;
-        twos = twos;
-        fours = fours;
-        eights = eights;
-        nx = [];
-      };
+      value = made time priority lon lat alt angle sats speed event generation ones twos fours eights [];
       same = ap (λ x. F x (cast_unsigned w32 (cast_signed w32 lat)) (cast_unsigned w16 (cast_signed w16 alt)) (length ones + length twos + length fours + length eights + 0)) a ∙ ap (λ y. F lon y (cast_unsigned w16 (cast_signed w16 alt)) (length ones + length twos + length fours + length eights + 0)) b ∙ ap (λ z. F lon lat z (length ones + length twos + length fours + length eights + 0)) c ∙ ap (λ t. F lon lat alt t) d;
       longitude = signed_32 lon fit.1.1.0;
       latitude = signed_32 lat fit.1.1.1.0;
