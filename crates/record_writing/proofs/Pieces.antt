@@ -18,7 +18,7 @@ use Rattle.record_writing.proofs.Groups.{triples_count}
 use Rattle.avl_values.specs.NxElements.{nx_size}
 use Rattle.std.proofs.lemmas.List.Sums.{sum_by-cons}
 use Rattle.record_writing.specs.Length.{record_length, pairs_length, ios_length, shortest_length}
-use Rattle.record_writing.specs.Pieces.{head_bytes, HeadFits, event_bytes, EventFits, group_bytes, elements_bytes, elements_length, ElementsFit, nx_bytes}
+use Rattle.record_writing.specs.Pieces.{head_bytes, HeadFits, event_bytes, event_length, EventFits, group_bytes, elements_bytes, elements_length, ElementsFit, nx_bytes}
 
 -- each element has one of the four widths
 one_more : (w : Width) (a b c d : List (ℕ × ℕ)) (e : ℕ × ℕ)
@@ -32,6 +32,12 @@ one_more W8 a b c d e = omega arith
 pub of_widths : (ios : List IoElement) → length (pairs_of W1 ios) + length (pairs_of W2 ios) + length (pairs_of W4 ios) + length (pairs_of W8 ios) ≡ length ios
 of_widths [] = refl
 of_widths (io ∷ ios) = one_more io.width (pairs_of W1 ios) (pairs_of W2 ios) (pairs_of W4 ios) (pairs_of W8 ios) (io.id, io.value) ∙ ap (λ n. suc n) (of_widths ios)
+
+-- the length of a record is the sum of its pieces' lengths
+pub length_pieces : (codec : Codec) (r : AvlRecord) → record_length codec (value_of r) ≡ 24 + event_length codec + elements_length codec r
+length_pieces C8 r = omega arith
+length_pieces C8E r = omega arith
+length_pieces C16 r = omega arith
 
 regroup : (a b c d e : List ℕ) → a ++ (b ++ (c ++ (d ++ e))) ≡ (a ++ (b ++ (c ++ d))) ++ e
 regroup a b c d e = simp append_assoc
