@@ -25,8 +25,9 @@ use std::sync::Wait;
 use std::thread;
 use std::time::Duration;
 
-/// How often a seat sleeps at most while others have a ticket. Then it draws one all the same.
-const NAPS: u32 = 6;
+/// How often a seat sleeps at most while others have a ticket. Then it draws one all the same. 64 seats whose calls take a millisecond and
+/// a half each come round in that time; where calls take longer, the wait for a sleeper to wake counts for little.
+const NAPS: u32 = 50;
 /// For how many milliseconds at most it sleeps each time.
 const NAP: u64 = 2;
 /// How often a seat with a ticket looks before it sleeps until the turn is passed on.
