@@ -1,66 +1,49 @@
 #!/usr/bin/env python3
 """Serves packets of 40 new records over loopback, with the archive in a file and two syncs a packet: by one connection, eight and 64, beside
-a plain Rust server of the same format (bench/serve_peer/main.rs, built by rustc) and beside the two syncs alone, which this script
+a plain Rust server of the same format (bench/serve_peer/plain.rs, built by rustc) and beside the two syncs alone, which this script
 makes. All run in turn, and what is shown are medians of the speeds and of each turn's ratios, so that a slow spell of the machine meets
 all of them. Then the memory of a session and of an archived record.
 
 Usage: bench/serve.py [PROGRAM]; PROGRAM is the built fmb_program, crates/fmb_program/out/fmb_program by default (`rt run` in its folder
-builds it). The clients are Python, one process a connection. Wanted: at least 0.95 of the plain server's packets a second, and with 64
-connections 0.9 of the pairs of syncs; at most 300 KB a session and 110 bytes a record over its own.
+builds it). It needs rustc, which builds the clients too (bench/serve_peer/client.rs: a thread a connection), so that they take little of
+the processors that both servers use. Wanted: at least 0.95 of the plain server's packets a second, and with 64 connections 0.9 of the
+pairs of syncs; at most 300 KB a session and 110 bytes a record over its own.
 """
-import multiprocessing, os, shutil, statistics, subprocess, sys, tempfile, time
+import os, statistics, subprocess, sys, tempfile, time
 sys.path.insert(0, os.path.join(os.path.dirname(os.path.dirname(os.path.abspath(__file__))), "deploy"))
 from tracker import Server, TOP, archived, frame, free_port, logged_in, whole, words
 
 PROGRAM = os.path.abspath(sys.argv[1] if len(sys.argv) > 1 else os.path.join(TOP, "crates/fmb_program/out/fmb_program"))
 IMEI, RECORDS, PACKETS, TURNS = 350000000000000, 40, 1_920, 11
+NAMES = ["plain", "fmb", "syncs"]
 
 
-def client(port, number, frames, ready, go):
-    """Sends frames one by one, each after the count of the one before."""
-    with logged_in(port, IMEI + number, 120) as link:
-        ready.release()
-        go.wait()
-        for data in frames:
-            link.sendall(data)
-            assert whole(link, 4) == RECORDS.to_bytes(4, "big")
+def build(folder, name):
+    """Builds a program of bench/serve_peer, and returns its path."""
+    program = os.path.join(folder, name)
+    source = os.path.join(TOP, "bench/serve_peer", name + ".rs")
+    subprocess.run(["rustc", "--edition=2021", "-O", "-o", program, source], check=True)
+    return program
 
 
-def packets(connections):
-    """The frames of each connection."""
-    each = PACKETS // connections
-    return [[frame(range(RECORDS * n, RECORDS * (n + 1))) for n in range(each)] for _ in range(connections)]
-
-
-def speed(command, port, path, sent):
+def speed(command, port, path, connections):
     """Packets a second."""
     server = Server(command, path, port)
-    ready, go = multiprocessing.Semaphore(0), multiprocessing.Event()
-    clients = [multiprocessing.Process(target=client, args=(port, n, frames, ready, go)) for n, frames in enumerate(sent)]
-    for one in clients:
-        one.start()
-    for _ in clients:
-        ready.acquire()
-    begun = time.monotonic()
-    go.set()
-    for one in clients:
-        one.join()
-        assert one.exitcode == 0
-    seconds = time.monotonic() - begun
+    each = PACKETS // connections
+    said = subprocess.run([CLIENT, str(port), str(connections), str(each), str(RECORDS)], check=True, capture_output=True, text=True).stdout
     assert server.status(60) == 0, server.lines()
-    many = sum(map(len, sent))
-    assert len(archived(path)) == many * RECORDS, "all is archived"
-    return many / seconds
+    assert len(archived(path)) == PACKETS * RECORDS, "all is archived"
+    return float(said)
 
 
-def pairs(path, sent):
+def pairs(path):
     """Pairs of syncs a second, for entries of as many bytes."""
     data, end = bytes(15 + 30 * RECORDS), 9
     file = os.open(path, os.O_RDWR | os.O_CREAT | os.O_TRUNC)
     os.pwrite(file, b"FMBARCH1\0", 0)
     os.fdatasync(file)
-    begun, many = time.monotonic(), sum(map(len, sent))
-    for _ in range(many):
+    begun = time.monotonic()
+    for _ in range(PACKETS):
         os.pwrite(file, data, end)
         os.fdatasync(file)
         os.pwrite(file, b"\xa5", end - 1)
@@ -68,7 +51,7 @@ def pairs(path, sent):
         end += len(data)
     seconds = time.monotonic() - begun
     os.close(file)
-    return many / seconds
+    return PACKETS / seconds
 
 
 def memory(server):
@@ -109,22 +92,19 @@ def sizes(folder):
 
 
 with tempfile.TemporaryDirectory(dir=os.path.dirname(PROGRAM)) as folder:
-    compiler, peer = shutil.which("rustc"), os.path.join(folder, "peer")
-    if compiler:
-        subprocess.run([compiler, "--edition=2021", "-O", "-o", peer, os.path.join(TOP, "bench/serve_peer/main.rs")], check=True)
+    PLAIN, CLIENT = build(folder, "plain"), build(folder, "client")
     for connections in (1, 8, 64):
-        sent, names = packets(connections), ["plain", "fmb", "syncs"] if compiler else ["fmb", "syncs"]
         turns = []
         for turn in range(TURNS):
             turns.append({})
-            for name in names if turn % 2 else names[::-1]:
+            for name in NAMES if turn % 2 else NAMES[::-1]:
                 path, port = os.path.join(folder, f"{name}{turn}"), free_port()
                 address = f"127.0.0.1:{port}"
-                command = words(PROGRAM, address, path, connections, 1) if name == "fmb" else [peer, address, path, str(connections), "1"]
-                turns[-1][name] = pairs(path, sent) if name == "syncs" else speed(command, port, path, sent)
+                command = words(PROGRAM, address, path, connections, 1) if name == "fmb" else [PLAIN, address, path, str(connections), "1"]
+                turns[-1][name] = pairs(path) if name == "syncs" else speed(command, port, path, connections)
                 os.remove(path)
-        speeds = ", ".join(f"{name} {statistics.median(t[name] for t in turns):.0f}" for name in names)
-        ratios = ", ".join(f"{statistics.median(t['fmb'] / t[name] for t in turns):.2f} of {name}" for name in names if name != "fmb")
+        speeds = ", ".join(f"{name} {statistics.median(t[name] for t in turns):.0f}" for name in NAMES)
+        ratios = ", ".join(f"{statistics.median(t['fmb'] / t[name] for t in turns):.2f} of {name}" for name in NAMES if name != "fmb")
         print(f"{connections} connections: {speeds} a second; fmb has {ratios}", flush=True)
     session, record = sizes(folder)
     print(f"{session:.0f} KB a session; {record:.0f} bytes a record over its own 30")
