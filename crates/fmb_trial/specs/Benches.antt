@@ -5,7 +5,7 @@ use Rattle.fmb_host.specs.Host.{HostView}
 use Rattle.fmb_host.specs.Stocks.{GainsLast, Stock}
 use Rattle.trial_play.specs.OnMedia.{BenchStates}
 
--- This number of benches was handed out, each made anew, and these came back, in this order, where that is told.
+-- This number of new benches was handed out, and these came back, in this order, where that is told.
 pub record PassesNew (given : ℕ) (back : List MediumState) (before after : Stock MediumState) : Type 0 where
   pub coming : after.coming ≡ before.coming
   pub returns : GainsLast before.returns back given after.returns

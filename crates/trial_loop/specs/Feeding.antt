@@ -11,7 +11,7 @@ use Rattle.trial_wire.specs.Connections.{Connection, fed}
 use Rattle.trial_wire.specs.Hearing.{rest_in}
 use Rattle.trial_wire.specs.WireLinks.{Passes}
 
--- up to where a session has the bytes of its stream after so many more
+-- up to where a session has the bytes of its stream once it was given this number more
 abbrev pub place_after : Connection → Option ℕ → ℕ
 place_after w bytes = up_to (plus (Some w.log.up_given) bytes) (length w.log.up)
 

@@ -55,7 +55,7 @@ pub fn server_end(ended: Option<ServerEnd>, session: &Session) -> ServerEnd
     }
 }
 
-// Up to where a session has its stream's bytes after so many more; None is all.
+// Up to where a session has its stream's bytes once it was given this number more; None is all.
 fn place_after(given: u64, bytes: Option<u64>, sent: usize) -> usize
     ensures { result ≡ up_to (plus (Some given) bytes) sent }
 {
@@ -110,8 +110,8 @@ impl TrialConnection {
         }
     }
 
-    /// Gives a session that goes on the next bytes of its stream, at most so many; None is all (a `late` line). After NoMemory the
-    /// trial can't go on.
+    /// Gives a session that goes on the next bytes of its stream, at most `bytes` of them; None is all (a `late` line). After NoMemory
+    /// the trial can't go on.
     pub fn feed<M: Medium>(
         &mut self,
         shelf: &mut Shelf<M>,

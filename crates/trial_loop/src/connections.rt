@@ -97,8 +97,8 @@ impl Connections {
         self.places.clear();
     }
 
-    /// Gives the session of the connection of this number, from 1, the next bytes of its stream, if it goes on: at most so many; None is
-    /// all (a `late` line). After NoMemory the trial can't go on.
+    /// Gives the session of the connection of this number, from 1, the next bytes of its stream, if it goes on: at most `bytes` of them;
+    /// None is all (a `late` line). After NoMemory the trial can't go on.
     pub fn feed<M: Medium>(
         &mut self,
         shelf: &mut Shelf<M>,

@@ -147,7 +147,7 @@ fn file_after(alloc: Global, bytes: &[u8]) -> Option<MemoryMedium> {
 /// An archive without entries, whole: its mark, and a closed gate.
 const EMPTY: &str = "464d42415243483100";
 
-// A file of at most nine bytes that is no archive is made anew, and an open gate after the mark is closed.
+// A file of at most nine bytes that is no archive becomes an empty one, and an open gate after the mark is closed.
 #[test]
 fn the_file_of_no_records(rt: HostRuntime) -> Result<(), Fail> {
     let alloc = rt.alloc();
