@@ -1,10 +1,16 @@
 -- Things that are handed out and come back, one after the other.
-use Rattle.std.proofs.Common.{◌≡◌, ◌<◌, ◌+◌, ℕ, zero, suc, List, [], ◌∷◌, ◌++◌, length, map, Option, None, Some, refl, sym, ap, subst, ◌∙◌, arith, append_assoc, append-nil, length-append}
+use Rattle.std.proofs.Common.{◌≡◌, ◌<◌, ◌+◌, ℕ, zero, suc, List, [], ◌∷◌, ◌++◌, length, map, replicate, Option, None, Some, option_map, refl, sym, ap, subst, ◌∙◌, arith, append_assoc, append-nil, length-append}
+use Rattle.std.proofs.lemmas.List.{replicate-append-replicate}
 use Rattle.doors.specs.MemoryDoors.{MemoryDoorState}
 use Rattle.text_streams.specs.Memory.{MemorySourceView, source_state}
 use Rattle.fmb_host.specs.Host.{TakesBack, TakesBackDoor, counted_once}
 use Rattle.fmb_host.specs.Memory.{MemoryHostView, QueueView, after_return, gate_state, host_view, return_to, returns_of, stock_of}
-use Rattle.fmb_host.specs.Stocks.{ComesBack, ComesFrom, GainsLast, Lends, LendsNew, LosesFirst, LosesFront, Passes, Regains, Returns, Stock, lends_one}
+use Rattle.fmb_host.specs.Stocks.{AsksFor, ComesBack, ComesFrom, GainsLast, Lends, LendsNamed, LendsNew, LosesFirst, LosesFront, Passes, PassesNamed, Regains, Returns, Stock, lends_one}
+
+-- no more names than were told
+no_more : (asked : Option (List (List ℕ))) → asked ≡ option_map (λ told. told ++ []) asked
+no_more None = refl
+no_more (Some told) = ap (λ names. Some names) (sym (append-nil told))
 
 module _ {T : Type 0} where
   -- nothing was handed out, and nothing came back
@@ -88,6 +94,43 @@ module _ {T : Type 0} where
   pub passes_along : (given back : List T) (a b c : Stock T) → Passes given back a b → c ≡ b → Passes given back a c
   passes_along given back a b c first same = subst (Passes given back a) (sym same) first
 
+  -- what was asked for one after the other
+  asks_then : (names more : List (List ℕ)) (a b c : Stock T) → AsksFor names a b → AsksFor more b c → AsksFor (names ++ more) a c
+  asks_then names more a b c first next = next ∙ (ap (λ asked. option_map (λ told. told ++ more) asked) first ∙ both_told a.asked)
+    where
+      both_told : (asked : Option (List (List ℕ))) → option_map (λ told. told ++ more) (option_map (λ told. told ++ names) asked) ≡ option_map (λ told. told ++ (names ++ more)) asked
+      both_told None = refl
+      both_told (Some told) = ap (λ names. Some names) (append_assoc told names more)
+
+  -- The same of what is handed out under one name: none, one after the other, one more, one came back, one that came back, and nothing
+  -- more.
+  pub named_none : (name : List ℕ) (stock : Stock T) → PassesNamed name [] [] stock stock
+  named_none name stock = record { passes = passes_none stock; asked = no_more stock.asked }
+
+  pub named_then : (name : List ℕ) (given more back later : List T) (a b c : Stock T) → PassesNamed name given back a b → PassesNamed name more later b c → PassesNamed name (given ++ more) (back ++ later) a c
+  named_then name given more back later a b c first next = record {
+    passes = passes_then given more back later a b c first.passes next.passes;
+    asked = subst (λ (names : List (List ℕ)). AsksFor names a c) (replicate-append-replicate (length given) (length more) name ∙ ap (λ n. replicate n name) (sym (length-append given more)))
+        (asks_then (replicate (length given) name) (replicate (length more) name) a b c first.asked next.asked);
+  }
+
+  pub named_lent : (name : List ℕ) (given back : List T) (item : T) (a b c : Stock T) → PassesNamed name given back a b → LendsNamed name b item c → PassesNamed name (given ++ item ∷ []) back a c
+  named_lent name given back item a b c first next = record {
+    passes = passes_lent given back item a b c first.passes next.lends;
+    asked = subst (λ (names : List (List ℕ)). AsksFor names a c) (replicate-append-replicate (length given) 1 name ∙ ap (λ n. replicate n name) (sym (length-append given (item ∷ []))))
+        (asks_then (replicate (length given) name) (name ∷ []) a b c first.asked next.named);
+  }
+
+  pub named_back : (name : List ℕ) (given back : List T) (item : T) (a b c : Stock T) → PassesNamed name given back a b → length back < length given → Regains b item c
+      → PassesNamed name given (back ++ item ∷ []) a c
+  named_back name given back item a b c first out next = record { passes = passes_back given back item a b c first.passes out next; asked = next.asked ∙ first.asked }
+
+  pub named_one : (name : List ℕ) (item last : T) (a b c : Stock T) → LendsNamed name a item b → Regains b last c → PassesNamed name (item ∷ []) (last ∷ []) a c
+  named_one name item last a b c lent regained = named_back name (item ∷ []) [] last a b c (named_lent name [] [] item a a b (named_none name a) lent) (omega arith) regained
+
+  pub named_along : (name : List ℕ) (given back : List T) (a b c : Stock T) → PassesNamed name given back a b → c ≡ b → PassesNamed name given back a c
+  named_along name given back a b c first same = subst (PassesNamed name given back a) (sym same) first
+
 -- what a host in memory does with its queues is told so
 module _ {S T : Type 0} (see : S → T) where
   pub queue_lends : (old new : QueueView S) (item : S) → old.coming ≡ item ∷ new.coming → new ≡ record old { coming = new.coming; lent = suc old.lent } → Lends (stock_of see old) (see item) (stock_of see new)
@@ -113,8 +156,8 @@ module _ {S T : Type 0} (see : S → T) where
   pub queue_regains : (old new : QueueView S) (item : S) → new ≡ after_return item old → Regains (stock_of see old) (see item) (stock_of see new)
   queue_regains old new item is = subst (λ (q : QueueView S). Regains (stock_of see old) (see item) (stock_of see q)) (sym is) (regained old.lent)
     where
-      regained : (n : ℕ) → Regains (record { coming = Some (map see old.coming); returns = returns_of see old.back n }) (see item) (stock_of see (return_to n item (record old { lent = n })))
-      regained n = record { last = last_of n old.back; coming = coming_of n }
+      regained : (n : ℕ) → Regains (record { coming = Some (map see old.coming); returns = returns_of see old.back n; asked = None }) (see item) (stock_of see (return_to n item (record old { lent = n })))
+      regained n = record { last = last_of n old.back; coming = coming_of n; asked = refl }
         where
           last_of : (n : ℕ) (back : Option (List S)) → ComesBack (returns_of see back n) (see item) (stock_of see (return_to n item (record old { back = back; lent = n }))).returns
           last_of zero None = refl

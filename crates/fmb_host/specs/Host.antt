@@ -1,5 +1,5 @@
 -- A host as contracts see it, and what its calls change (this project's own).
-use Rattle.std.specs.Prelude.{ℕ, ◌+◌, ◌^◌, ◌<◌, ◌≡◌, ◌==◌, [], map, Option, None, Some, option_map, if◌then◌else◌}
+use Rattle.std.specs.Prelude.{ℕ, ◌+◌, ◌^◌, ◌<◌, ◌≡◌, ◌==◌, List, [], map, Option, None, Some, option_map, if◌then◌else◌}
 use Rattle.doors.specs.Doors.{DoorLinks, DoorState}
 use Rattle.links.specs.Links.{LinkState}
 use Rattle.medium_model.specs.CallsLeft.{unlimited}
@@ -7,7 +7,7 @@ use Rattle.medium_model.specs.Content.{settled}
 use Rattle.medium_model.specs.State.{MediumState}
 use Rattle.text_streams.specs.States.{SourceState, SinkState}
 use Rattle.fmb_host.specs.declared.host.Counts.{Counts}
-use Rattle.fmb_host.specs.Stocks.{Lends, LendsNew, Regains, Stock}
+use Rattle.fmb_host.specs.Stocks.{Lends, LendsNamed, LendsNew, Regains, Stock}
 use Rattle.trial_model.specs.Results.{Results}
 
 -- the counts of faults, the outcome that was kept last, the sink, and what it hands out: texts, media, links, doors and benches
@@ -46,34 +46,34 @@ pub record TakesBack (before : HostView) (text : SourceState) (after : HostView)
   pub texts : Regains before.texts text after.texts
   pub others : after ≡ record before { counts = record before.counts { texts = counted_once before.counts.texts text.faults }; texts = after.texts }
 
--- the same of a medium
-pub record HandsOutMedium (before : HostView) (medium : MediumState) (after : HostView) : Type 0 where
-  pub media : Lends before.media medium after.media
+-- the same of a medium, under its name
+pub record HandsOutMedium (before : HostView) (name : List ℕ) (medium : MediumState) (after : HostView) : Type 0 where
+  pub media : LendsNamed name before.media medium after.media
   pub others : after ≡ record before { media = after.media }
 
 pub record TakesBackMedium (before : HostView) (medium : MediumState) (after : HostView) : Type 0 where
   pub media : Regains before.media medium after.media
   pub others : after ≡ record before { counts = record before.counts { media = counted_once before.counts.media medium.faults }; media = after.media }
 
--- the same of a link, which counts nothing
-pub record HandsOutWire (before : HostView) (link : LinkState) (after : HostView) : Type 0 where
-  pub wires : Lends before.wires link after.wires
+-- the same of a link, under its address, which counts nothing
+pub record HandsOutWire (before : HostView) (address : List ℕ) (link : LinkState) (after : HostView) : Type 0 where
+  pub wires : LendsNamed address before.wires link after.wires
   pub others : after ≡ record before { wires = after.wires }
 
 pub record TakesBackWire (before : HostView) (link : LinkState) (after : HostView) : Type 0 where
   pub wires : Regains before.wires link after.wires
   pub others : after ≡ record before { wires = after.wires }
 
--- the same of a door
-pub record HandsOutDoor (before : HostView) (door : DoorState LinkState) (after : HostView) : Type 0 where
-  pub gates : Lends before.gates door after.gates
+-- the same of a door, under its address
+pub record HandsOutDoor (before : HostView) (address : List ℕ) (door : DoorState LinkState) (after : HostView) : Type 0 where
+  pub gates : LendsNamed address before.gates door after.gates
   pub others : after ≡ record before { gates = after.gates }
 
 pub record TakesBackDoor (before : HostView) (door : DoorState LinkState) (after : HostView) : Type 0 where
   pub gates : Regains before.gates door after.gates
   pub others : after ≡ record before { counts = record before.counts { doors = counted_once before.counts.doors door.faults }; gates = after.gates }
 
--- the same of a bench, which is made anew and counts nothing
+-- the same of a bench, which is new and counts nothing
 pub record HandsOutBench (before after : HostView) : Type 0 where
   pub benches : LendsNew before.benches after.benches
   pub others : after ≡ record before { benches = after.benches }

@@ -35,9 +35,9 @@ abbrev pub returns_of : {S T : Type 0} → (S → T) → Option (List S) → ℕ
 returns_of see None lent = None
 returns_of see (Some back) lent = Some (record { back = map see back; lent = lent })
 
--- what is told of the things, each seen so
+-- what is told of the things, each seen so, which is no name
 abbrev pub stock_of : {S T : Type 0} → (S → T) → QueueView S → Stock T
-stock_of see q = record { coming = Some (map see q.coming); returns = returns_of see q.back q.lent }
+stock_of see q = record { coming = Some (map see q.coming); returns = returns_of see q.back q.lent; asked = None }
 
 -- its counts, the outcome that it kept last, its sink, its texts, media, links, doors and benches, and which opens, dials and doors fail
 pub record MemoryHostView : Type 0 where

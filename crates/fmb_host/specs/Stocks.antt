@@ -1,22 +1,23 @@
 -- Things of one kind that a host hands out and takes back, as contracts see them (this project's own).
-use Rattle.std.specs.Prelude.{ℕ, zero, suc, ◌+◌, ◌≡◌, List, [], ◌∷◌, ◌++◌, length, map, Option, None, Some, option_map, ⊤}
+use Rattle.std.specs.Prelude.{ℕ, zero, suc, ◌+◌, ◌≡◌, List, [], ◌∷◌, ◌++◌, length, map, replicate, Option, None, Some, option_map, ⊤}
 
 -- those that came back, and how many are out
 pub record Returns (T : Type 0) : Type 0 where
   pub back : List T
   pub lent : ℕ
 
--- those to come and those that came back, each where that is told
+-- those to come, those that came back, and the names under which things were handed out, in order, each where that is told
 pub record Stock (T : Type 0) : Type 0 where
   pub coming : Option (List T)
   pub returns : Option (Returns T)
+  pub asked : Option (List (List ℕ))
 
 -- the same things, each seen so
 abbrev pub seen_returns : {S T : Type 0} → (S → T) → Returns S → Returns T
 seen_returns see r = record { back = map see r.back; lent = r.lent }
 
 abbrev pub seen_stock : {S T : Type 0} → (S → T) → Stock S → Stock T
-seen_stock see stock = record { coming = option_map (map see) stock.coming; returns = option_map (seen_returns see) stock.returns }
+seen_stock see stock = record { coming = option_map (map see) stock.coming; returns = option_map (seen_returns see) stock.returns; asked = stock.asked }
 
 module _ {T : Type 0} where
   -- a told list begins with the item, and loses it
@@ -40,10 +41,19 @@ module _ {T : Type 0} where
   ComesBack None item after = after ≡ None
   ComesBack (Some r) item after = ComesFrom r.lent r.back item after
 
+  -- things were asked for under these names, in this order, where that is told
+  abbrev pub AsksFor : List (List ℕ) → Stock T → Stock T → Type 0
+  AsksFor names before after = after.asked ≡ option_map (λ told. told ++ names) before.asked
+
   -- one was handed out, the first of those to come where they are told
   pub record Lends (before : Stock T) (item : T) (after : Stock T) : Type 0 where
     pub first : LosesFirst before.coming item after.coming
     pub returns : after.returns ≡ lends_one before.returns
+
+  -- and it was asked for under this name
+  pub record LendsNamed (name : List ℕ) (before : Stock T) (item : T) (after : Stock T) : Type 0 where
+    pub lends : Lends before item after
+    pub named : AsksFor (name ∷ []) before after
 
   -- one was handed out that wasn't among those to come
   pub record LendsNew (before after : Stock T) : Type 0 where
@@ -54,6 +64,7 @@ module _ {T : Type 0} where
   pub record Regains (before : Stock T) (item : T) (after : Stock T) : Type 0 where
     pub last : ComesBack before.returns item after.returns
     pub coming : after.coming ≡ before.coming
+    pub asked : after.asked ≡ before.asked
 
   -- a told list begins with these, and loses them
   abbrev pub LosesFront : Option (List T) → List T → Option (List T) → Type 0
@@ -71,3 +82,8 @@ module _ {T : Type 0} where
   pub record Passes (given back : List T) (before after : Stock T) : Type 0 where
     pub coming : LosesFront before.coming given after.coming
     pub returns : GainsLast before.returns back (length given) after.returns
+
+  -- and each was asked for under this name
+  pub record PassesNamed (name : List ℕ) (given back : List T) (before after : Stock T) : Type 0 where
+    pub passes : Passes given back before after
+    pub asked : AsksFor (replicate (length given) name) before after

@@ -63,7 +63,7 @@ pub trait Host {
     /// Hands out the medium of this name, and makes an empty one where there is none. `Failed` counts.
     fn open_medium(&mut self, name: &str) -> Result<Self::File, Failed>
         requires { (view self.old).counts.host < 2 ^ 64 - 1 }
-        ensures handed { IfOk result (λ medium. HandsOutMedium (view self.old) (Self.File.state medium) (view self.new)) }
+        ensures handed { IfOk result (λ medium. HandsOutMedium (view self.old) name.now (Self.File.state medium) (view self.new)) }
         ensures fresh { IfOk result (λ medium. (Self.File.state medium).faults ≡ 0) }
         ensures failed { OnErr result (view self.new ≡ with_host_fault (view self.old)) };
 
@@ -75,7 +75,7 @@ pub trait Host {
     /// Connects to an address, and hands out the link. `Failed` counts.
     fn dial(&mut self, address: &str) -> Result<Self::Wire, Failed>
         requires { (view self.old).counts.host < 2 ^ 64 - 1 }
-        ensures handed { IfOk result (λ link. HandsOutWire (view self.old) (Self.Wire.state link) (view self.new)) }
+        ensures handed { IfOk result (λ link. HandsOutWire (view self.old) address.now (Self.Wire.state link) (view self.new)) }
         ensures unused { IfOk result (λ link. IsUnused (Self.Wire.state link)) }
         ensures failed { OnErr result (view self.new ≡ with_host_fault (view self.old)) };
 
@@ -87,7 +87,7 @@ pub trait Host {
     /// `Failed` counts.
     fn door(&mut self, address: &str, worker: u32) -> Result<Self::Gate, Failed>
         requires { (view self.old).counts.host < 2 ^ 64 - 1 }
-        ensures handed { IfOk result (λ door. HandsOutDoor (view self.old) (seen_door Self.Gate.L.state (Self.Gate.state door)) (view self.new)) }
+        ensures handed { IfOk result (λ door. HandsOutDoor (view self.old) address.now (seen_door Self.Gate.L.state (Self.Gate.state door)) (view self.new)) }
         ensures unused { IfOk result (λ door. IsNewDoor (seen_door Self.Gate.L.state (Self.Gate.state door))) }
         ensures failed { OnErr result (view self.new ≡ with_host_fault (view self.old)) };
 

@@ -273,7 +273,7 @@ impl Host for MemoryHost {
 
     fn open_medium(&mut self, name: &str) -> Result<MemoryMedium, Failed>
         requires { self.old.counts.host < 2 ^ 64 - 1 }
-        ensures handed { IfOk result (λ medium. HandsOutMedium (host_view self.old) (memory_state medium) (host_view self.new)) }
+        ensures handed { IfOk result (λ medium. HandsOutMedium (host_view self.old) name.now (memory_state medium) (host_view self.new)) }
         ensures fresh { IfOk result (λ medium. medium.faults ≡ 0) }
         ensures failed { OnErr result (host_view self.new ≡ with_host_fault (host_view self.old)) }
 
@@ -301,7 +301,7 @@ impl Host for MemoryHost {
 
     fn dial(&mut self, address: &str) -> Result<MemoryLink, Failed>
         requires { self.old.counts.host < 2 ^ 64 - 1 }
-        ensures handed { IfOk result (λ link. HandsOutWire (host_view self.old) (link_state link) (host_view self.new)) }
+        ensures handed { IfOk result (λ link. HandsOutWire (host_view self.old) address.now (link_state link) (host_view self.new)) }
         ensures unused { IfOk result (λ link. IsUnused (link_state link)) }
         ensures failed { OnErr result (host_view self.new ≡ with_host_fault (host_view self.old)) }
 
@@ -327,7 +327,7 @@ impl Host for MemoryHost {
 
     fn door(&mut self, address: &str, worker: u32) -> Result<MemoryDoor, Failed>
         requires { self.old.counts.host < 2 ^ 64 - 1 }
-        ensures handed { IfOk result (λ door. HandsOutDoor (host_view self.old) (gate_state door) (host_view self.new)) }
+        ensures handed { IfOk result (λ door. HandsOutDoor (host_view self.old) address.now (gate_state door) (host_view self.new)) }
         ensures unused { IfOk result (λ door. IsNewDoor (gate_state door)) }
         ensures failed { OnErr result (host_view self.new ≡ with_host_fault (host_view self.old)) }
 
