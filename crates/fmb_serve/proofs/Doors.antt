@@ -4,8 +4,8 @@ use Rattle.std.proofs.lemmas.List.{length-map, map-append}
 use Rattle.doors.specs.Doors.{DoorState}
 use Rattle.links.specs.Links.{LinkState}
 use Rattle.fmb_host.specs.Host.{HandsOutDoor, HostView, IsNewDoor, TakesBackDoor, counted_once, seen_door, with_host_fault}
-use Rattle.fmb_host.specs.Stocks.{Passes, Regains, Stock}
-use Rattle.fmb_host.proofs.Stocks.{passes_along, passes_back, passes_lent, passes_none}
+use Rattle.fmb_host.specs.Stocks.{PassesNamed, Regains, Stock}
+use Rattle.fmb_host.proofs.Stocks.{named_along, named_back, named_lent, named_none}
 use Rattle.fmb_serve.specs.Doors.{AreNewDoors, HandsOutDoors, OpensNoDoors, RegainsAll, TakesBackDoors}
 use Rattle.fmb_serve.specs.Serve.{counted_doors}
 use Rattle.fmb_serve.proofs.Counting.{counted_most, counted_new, counted_snoc}
@@ -16,12 +16,13 @@ module _ {T : Type 0} where
   regains_snoc a b c (y ∷ xs) x all last = (all.0, all.1, regains_snoc all.0 b c xs x all.2 last)
 
   -- what came back in order, of what was handed out
-  pub passes_all : (given back items : List T) (a b c : Stock T) → Passes given back a b → length back + length items ≤ length given → RegainsAll b items c → Passes given (back ++ items) a c
-  passes_all given back [] a b c first few same = subst (λ (l : List T). Passes given l a c) (sym (append-nil back)) (passes_along given back a b c first same)
-  passes_all given back (x ∷ items) a b c first few all =
+  pub passes_all : (name : List ℕ) (given back items : List T) (a b c : Stock T) → PassesNamed name given back a b → length back + length items ≤ length given → RegainsAll b items c
+      → PassesNamed name given (back ++ items) a c
+  passes_all name given back [] a b c first few same = subst (λ (l : List T). PassesNamed name given l a c) (sym (append-nil back)) (named_along name given back a b c first same)
+  passes_all name given back (x ∷ items) a b c first few all =
       let one : length (back ++ x ∷ []) ≡ length back + 1 = length-append back (x ∷ []) in
-      subst (λ (l : List T). Passes given l a c) (append_assoc back (x ∷ []) items)
-      (passes_all given (back ++ x ∷ []) items a all.0 c (passes_back given back x a b all.0 first (omega (arith, few)) all.1) (omega (arith, few, one)) all.2)
+      subst (λ (l : List T). PassesNamed name given l a c) (append_assoc back (x ∷ []) items)
+      (passes_all name given (back ++ x ∷ []) items a all.0 c (named_back name given back x a b all.0 first (omega (arith, few)) all.1) (omega (arith, few, one)) all.2)
 
 module _ {L : Type 0} (state : L → LinkState) where
   new_snoc : (ds : List (DoorState L)) (d : DoorState L) → AreNewDoors state ds → IsNewDoor (seen_door state d) → AreNewDoors state (ds ++ d ∷ [])
@@ -43,26 +44,26 @@ module _ {L : Type 0} (state : L → LinkState) where
   }
 
   -- no door was handed out yet
-  pub hands_none : (start : HostView) (ds : List (DoorState L)) → ds ≡ [] → HandsOutDoors state start ds start
-  hands_none start ds none = subst (λ (l : List (DoorState L)). HandsOutDoors state start l start) (sym none) (record { gates = passes_none start.gates; new = tt; others = refl })
+  pub hands_none : (start : HostView) (address : List ℕ) (ds : List (DoorState L)) → ds ≡ [] → HandsOutDoors state start address ds start
+  hands_none start address ds none = subst (λ (l : List (DoorState L)). HandsOutDoors state start address l start) (sym none) (record { gates = named_none address start.gates; new = tt; others = refl })
 
   -- one more was handed out
-  pub hands_more : (start now next : HostView) (ds : List (DoorState L)) (d : DoorState L) → HandsOutDoors state start ds now → HandsOutDoor now (seen_door state d) next → IsNewDoor (seen_door state d)
-      → HandsOutDoors state start (ds ++ d ∷ []) next
-  hands_more start now next ds d all one new = record {
-    gates = subst (λ (l : List (DoorState LinkState)). Passes l [] start.gates next.gates) (sym (map-append (seen_door state) ds (d ∷ [])))
-        (passes_lent (map (seen_door state) ds) [] (seen_door state d) start.gates now.gates next.gates all.gates one.gates);
+  pub hands_more : (start now next : HostView) (address : List ℕ) (ds : List (DoorState L)) (d : DoorState L) → HandsOutDoors state start address ds now → HandsOutDoor now address (seen_door state d) next
+      → IsNewDoor (seen_door state d) → HandsOutDoors state start address (ds ++ d ∷ []) next
+  hands_more start now next address ds d all one new = record {
+    gates = subst (λ (l : List (DoorState LinkState)). PassesNamed address l [] start.gates next.gates) (sym (map-append (seen_door state) ds (d ∷ [])))
+        (named_lent address (map (seen_door state) ds) [] (seen_door state d) start.gates now.gates next.gates all.gates one.gates);
     new = new_snoc ds d all.new new;
     others = one.others ∙ ap (λ (h : HostView). record h { gates = next.gates }) all.others;
   }
 
   -- the next one failed, and those that were handed out came back
-  pub opens_none : (start now failed next : HostView) (ds : List (DoorState L)) → HandsOutDoors state start ds now → failed ≡ with_host_fault now → TakesBackDoors state failed ds next
-      → OpensNoDoors state 1 start next
-  opens_none start now failed next ds all fault back = record {
+  pub opens_none : (start now failed next : HostView) (address : List ℕ) (ds : List (DoorState L)) → HandsOutDoors state start address ds now → failed ≡ with_host_fault now → TakesBackDoors state failed ds next
+      → OpensNoDoors state address 1 start next
+  opens_none start now failed next address ds all fault back = record {
     doors = map (seen_door state) ds;
-    gates = passes_all (map (seen_door state) ds) [] (map (seen_door state) ds) start.gates failed.gates next.gates
-        (passes_along (map (seen_door state) ds) [] start.gates now.gates failed.gates all.gates (ap (λ (h : HostView). h.gates) fault)) (omega arith) back.gates;
+    gates = passes_all address (map (seen_door state) ds) [] (map (seen_door state) ds) start.gates failed.gates next.gates
+        (named_along address (map (seen_door state) ds) [] start.gates now.gates failed.gates all.gates (ap (λ (h : HostView). h.gates) fault)) (omega arith) back.gates;
     others = back.others
         ∙ (ap (λ (n : ℕ). record failed { counts = record failed.counts { doors = n }; gates = next.gates }) (counted_new state 0 failed.counts.doors ds all.new)
         ∙ (ap (λ (h : HostView). record h { gates = next.gates }) fault

@@ -22,8 +22,8 @@ use Rattle.server_loop.specs.Workers.{AreReports}
 use Rattle.server_loop.specs.declared.report.WorkerReport.{WorkerReport}
 use Rattle.fmb_host.specs.declared.host.Counts.{Counts}
 use Rattle.fmb_host.specs.Host.{HandsOutMedium, HostView, TakesBackMedium, counted_once, seen_door, with_host_fault}
-use Rattle.fmb_host.specs.Stocks.{Lends, LosesFront, Passes, Stock}
-use Rattle.fmb_host.proofs.Stocks.{passes_along, passes_none, passes_one}
+use Rattle.fmb_host.specs.Stocks.{LendsNamed, LosesFront, PassesNamed, Stock}
+use Rattle.fmb_host.proofs.Stocks.{named_along, named_none, named_one}
 use Rattle.fmb_io.specs.Printed.{Prints}
 use Rattle.fmb_io.proofs.Steps.{once_none, once_some}
 use Rattle.fmb_serve.specs.Doors.{OpensNoDoors, TakesBackDoors}
@@ -49,9 +49,9 @@ same_prints : (line : List ℕ) (a b c d : HostView) → c.sink ≡ a.sink → d
 same_prints line a b c d first last printed = subst (λ (s : SinkState). writes.Prints line s d.sink) (sym first) (subst (λ (s : SinkState). writes.Prints line a.sink s) (sym last) printed)
 
 -- what was opened and went back, where nothing was served
-unserved : (start end : HostView) (given back : List MediumState) (doors : List (DoorState LinkState)) → length back ≡ length given → Passes given back start.media end.media → Passes doors doors start.gates end.gates
-    → IsUnserved start end
-unserved start end given back doors same media gates = record { given = given; back = back; same_count = same; media = media; doors = doors; gates = gates }
+unserved : (address archive : List ℕ) (start end : HostView) (given back : List MediumState) (doors : List (DoorState LinkState)) → length back ≡ length given → PassesNamed archive given back start.media end.media
+    → PassesNamed address doors doors start.gates end.gates → IsUnserved address archive start end
+unserved address archive start end given back doors same media gates = record { given = given; back = back; same_count = same; media = media; doors = doors; gates = gates }
 
 either_no : (n a b : ℕ) → (n ≡ a → ⊥) → (n ≡ b → ⊥) → (n ≡ a) ⊎ (n ≡ b) → ⊥
 either_no n a b first next (inl e) = first e
@@ -81,15 +81,15 @@ some_same a b is = cc
 first_same : {T : Type 0} (a b : T) (xs ys : List T) → a ∷ xs ≡ b ∷ ys → a ≡ b
 first_same a b xs ys is = cc
 
-module _ {L : Type 0} (state : L → LinkState) (follows : L → L → Type 0) (knows : ℕ → Bool) (workers sessions : ℕ) (start end : HostView) where
+module _ {L : Type 0} (state : L → LinkState) (follows : L → L → Type 0) (knows : ℕ → Bool) (address archive : List ℕ) (workers sessions : ℕ) (start end : HostView) where
   abbrev Served : (List WorkerReport → List StoredValue → ℕ → Type 0) → Type 0
-  Served P = OfServed state follows knows workers sessions P start end
+  Served P = OfServed state follows knows address archive workers sessions P start end
 
   abbrev TellsAt : ℕ → Type 0
-  TellsAt status = Served (λ reports list faults. (serving_status faults reports ≡ status) × Tells state follows knows workers sessions start end reports list)
+  TellsAt status = Served (λ reports list faults. (serving_status faults reports ≡ status) × Tells state follows knows address archive workers sessions start end reports list)
 
   ran_0 : Served (λ reports list faults. (serving_status faults reports ≡ 0) × writes.PrintsWhole (serve_lines reports list) start.sink end.sink) → writes.IsSteady start.sink end.sink
-      → end.counts ≡ start.counts → Only start end → RanServe state follows knows workers sessions 0 start end
+      → end.counts ≡ start.counts → Only start end → RanServe state follows knows address archive workers sessions 0 start end
   ran_0 served steady counts only = record {
     among = inl refl;
     served_whole = λ e. served;
@@ -107,7 +107,7 @@ module _ {L : Type 0} (state : L → LinkState) (follows : L → L → Type 0) (
   }
 
   ran_5 : Served (λ reports list faults. (serving_status faults reports ≡ 0) × writes.PrintsFront (serve_lines reports list) start.sink end.sink) → writes.HasFailed start.sink end.sink
-      → end.counts ≡ start.counts → Only start end → RanServe state follows knows workers sessions 5 start end
+      → end.counts ≡ start.counts → Only start end → RanServe state follows knows address archive workers sessions 5 start end
   ran_5 served failed counts only = record {
     among = inr (inl refl);
     served_whole = λ e. absurd (omega (arith, e));
@@ -124,7 +124,7 @@ module _ {L : Type 0} (state : L → LinkState) (follows : L → L → Type 0) (
     others = only;
   }
 
-  ran_6 : end.counts.media ≡ start.counts.media + 1 → SaysWhy (codes "medium fault\n") start end ⊎ TellsAt 6 → Only start end → RanServe state follows knows workers sessions 6 start end
+  ran_6 : end.counts.media ≡ start.counts.media + 1 → SaysWhy address archive (codes "medium fault\n") start end ⊎ TellsAt 6 → Only start end → RanServe state follows knows address archive workers sessions 6 start end
   ran_6 cause said only = record {
     among = inr (inr (inl refl));
     served_whole = λ e. absurd (omega (arith, e));
@@ -141,8 +141,8 @@ module _ {L : Type 0} (state : L → LinkState) (follows : L → L → Type 0) (
     others = only;
   }
 
-  ran_7 : (start.counts.host < end.counts.host) ⊎ (start.counts.doors < end.counts.doors) → SaysWhy (codes "host fault\n") start end ⊎ TellsAt 7 → Only start end
-      → RanServe state follows knows workers sessions 7 start end
+  ran_7 : (start.counts.host < end.counts.host) ⊎ (start.counts.doors < end.counts.doors) → SaysWhy address archive (codes "host fault\n") start end ⊎ TellsAt 7 → Only start end
+      → RanServe state follows knows address archive workers sessions 7 start end
   ran_7 cause said only = record {
     among = inr (inr (inr (inl refl)));
     served_whole = λ e. absurd (omega (arith, e));
@@ -159,7 +159,7 @@ module _ {L : Type 0} (state : L → LinkState) (follows : L → L → Type 0) (
     others = only;
   }
 
-  ran_8 : IsNotArchive start end → Only start end → RanServe state follows knows workers sessions 8 start end
+  ran_8 : IsNotArchive archive start end → Only start end → RanServe state follows knows address archive workers sessions 8 start end
   ran_8 refused only = record {
     among = inr (inr (inr (inr (inl refl))));
     served_whole = λ e. absurd (omega (arith, e));
@@ -176,8 +176,8 @@ module _ {L : Type 0} (state : L → LinkState) (follows : L → L → Type 0) (
     others = only;
   }
 
-  ran_9 : SaysWhy (codes "no memory\n") start end ⊎ Served (λ reports list faults. ((serving_status faults reports ≡ 9) × Tells state follows knows workers sessions start end reports list)
-      ⊎ ((serving_status faults reports ≡ 0) × Prints (codes "no memory\n") start end)) → Only start end → RanServe state follows knows workers sessions 9 start end
+  ran_9 : SaysWhy address archive (codes "no memory\n") start end ⊎ Served (λ reports list faults. ((serving_status faults reports ≡ 9) × Tells state follows knows address archive workers sessions start end reports list)
+      ⊎ ((serving_status faults reports ≡ 0) × Prints (codes "no memory\n") start end)) → Only start end → RanServe state follows knows address archive workers sessions 9 start end
   ran_9 said only = record {
     among = inr (inr (inr (inr (inr refl))));
     served_whole = λ e. absurd (omega (arith, e));
@@ -196,34 +196,34 @@ module _ {L : Type 0} (state : L → LinkState) (follows : L → L → Type 0) (
 
   -- the medium could not be opened
   pub medium_unopened : (failed : HostView) (status : ℕ) → failed ≡ with_host_fault start → status ≡ 7
-      → Prints (codes "host fault\n") failed end → end ≡ record failed { sink = end.sink } → RanServe state follows knows workers sessions status start end
+      → Prints (codes "host fault\n") failed end → end ≡ record failed { sink = end.sink } → RanServe state follows knows address archive workers sessions status start end
   medium_unopened failed status fault is line told =
       let rose : end.counts.host ≡ start.counts.host + 1 = ap (λ (h : HostView). h.counts.host) told ∙ ap (λ (h : HostView). h.counts.host) fault in
       let media : end.media ≡ start.media = ap (λ (h : HostView). h.media) told ∙ ap (λ (h : HostView). h.media) fault in
       let gates : end.gates ≡ start.gates = ap (λ (h : HostView). h.gates) told ∙ ap (λ (h : HostView). h.gates) fault in
-      subst (λ n. RanServe state follows knows workers sessions n start end) (sym is) (ran_7 (inl (omega (arith, rose)))
+      subst (λ n. RanServe state follows knows address archive workers sessions n start end) (sym is) (ran_7 (inl (omega (arith, rose)))
       (inl (
-        unserved start end [] [] [] refl (passes_along [] [] start.media start.media end.media (passes_none start.media) media) (passes_along [] [] start.gates start.gates end.gates (passes_none start.gates) gates),
+        unserved address archive start end [] [] [] refl (named_along archive [] [] start.media start.media end.media (named_none archive start.media) media) (named_along address [] [] start.gates start.gates end.gates (named_none address start.gates) gates),
         same_prints _ failed end start end (sym (ap (λ (h : HostView). h.sink) fault)) refl line,
       ))
       (only_then start failed end (only_is start failed _ fault refl) (only_is failed end _ told refl)))
 
   -- The medium was opened and went back, the doors passed, and a line was said.
-  module _ (medium back : MediumState) (mid gone : HostView) (handed : HandsOutMedium start medium mid) where
-    media_pass : (left : HostView) → left.media ≡ mid.media → TakesBackMedium left back gone → end.media ≡ gone.media → Passes (medium ∷ []) (back ∷ []) start.media end.media
-    media_pass left same taken last = passes_along (medium ∷ []) (back ∷ []) start.media gone.media end.media
-        (passes_one medium back start.media left.media gone.media (subst (λ m. Lent m) (sym same) handed.media) taken.media) last
+  module _ (medium back : MediumState) (mid gone : HostView) (handed : HandsOutMedium start archive medium mid) where
+    media_pass : (left : HostView) → left.media ≡ mid.media → TakesBackMedium left back gone → end.media ≡ gone.media → PassesNamed archive (medium ∷ []) (back ∷ []) start.media end.media
+    media_pass left same taken last = named_along archive (medium ∷ []) (back ∷ []) start.media gone.media end.media
+        (named_one archive medium back start.media left.media gone.media (subst (λ m. Lent m) (sym same) handed.media) taken.media) last
       where
         Lent : Stock MediumState → Type 0
-        Lent m = Lends start.media medium m
+        Lent m = LendsNamed archive start.media medium m
 
     -- Only the sink changed after the medium went back, and there a line was said.
-    module _ (left : HostView) (doors : List (DoorState LinkState)) (same : left.media ≡ mid.media) (gates : Passes doors doors start.gates left.gates) (before : Only mid left) (quiet : left.sink ≡ mid.sink)
+    module _ (left : HostView) (doors : List (DoorState LinkState)) (same : left.media ≡ mid.media) (gates : PassesNamed address doors doors start.gates left.gates) (before : Only mid left) (quiet : left.sink ≡ mid.sink)
         (taken : TakesBackMedium left back gone) (last : end ≡ record gone { sink = end.sink }) where
-      says_why : (line : List ℕ) → Prints line gone end → SaysWhy line start end
+      says_why : (line : List ℕ) → Prints line gone end → SaysWhy address archive line start end
       says_why line printed = (
-        unserved start end (medium ∷ []) (back ∷ []) doors refl (media_pass left same taken (ap (λ (h : HostView). h.media) last))
-            (passes_along doors doors start.gates left.gates end.gates gates (ap (λ (h : HostView). h.gates) last ∙ ap (λ (h : HostView). h.gates) taken.others)),
+        unserved address archive start end (medium ∷ []) (back ∷ []) doors refl (media_pass left same taken (ap (λ (h : HostView). h.media) last))
+            (named_along address doors doors start.gates left.gates end.gates gates (ap (λ (h : HostView). h.gates) last ∙ ap (λ (h : HostView). h.gates) taken.others)),
         same_prints line gone end start end (sym (ap (λ (h : HostView). h.sink) taken.others ∙ (quiet ∙ ap (λ (h : HostView). h.sink) handed.others))) refl printed,
       )
 
@@ -234,36 +234,36 @@ module _ {L : Type 0} (state : L → LinkState) (follows : L → L → Type 0) (
       counts_end = ap (λ (h : HostView). h.counts) last ∙ ap (λ (h : HostView). h.counts) taken.others
 
   -- The archive could not be opened.
-  pub archive_unopened : (fault : ArchiveFault) (status : ℕ) (medium back : MediumState) (mid gone : HostView) → HandsOutMedium start medium mid → medium.faults ≡ 0 → (fault ≡ MediumFault → Rose medium.faults back.faults)
+  pub archive_unopened : (fault : ArchiveFault) (status : ℕ) (medium back : MediumState) (mid gone : HostView) → HandsOutMedium start archive medium mid → medium.faults ≡ 0 → (fault ≡ MediumFault → Rose medium.faults back.faults)
       → (fault ≡ NotArchive → IfTold medium.content (λ c. IsArchive c.reads → ⊥)) → (fault ≡ NotArchive → back.content ≡ told after_sync medium.content) → TakesBackMedium mid back gone
       → (fault ≡ MediumFault → (status ≡ 6) × Prints (codes "medium fault\n") gone end) → (fault ≡ NotArchive → (status ≡ 8) × Prints (codes "refused archive\n") gone end)
-      → (fault ≡ NoMemory → (status ≡ 9) × Prints (codes "no memory\n") gone end) → end ≡ record gone { sink = end.sink } → RanServe state follows knows workers sessions status start end
+      → (fault ≡ NoMemory → (status ≡ 9) × Prints (codes "no memory\n") gone end) → end ≡ record gone { sink = end.sink } → RanServe state follows knows address archive workers sessions status start end
   archive_unopened fault status medium back mid gone handed fresh rose is_none kept taken six eight nine last = by_fault fault refl
     where
       at_start : mid.gates ≡ start.gates
       at_start = ap (λ (h : HostView). h.gates) handed.others
 
-      gates : Passes [] [] start.gates mid.gates
-      gates = passes_along [] [] start.gates start.gates mid.gates (passes_none start.gates) at_start
+      gates : PassesNamed address [] [] start.gates mid.gates
+      gates = named_along address [] [] start.gates start.gates mid.gates (named_none address start.gates) at_start
 
       only : Only start end
       only = only_end medium back mid gone handed mid [] refl gates refl refl taken last
 
-      says : (line : List ℕ) → Prints line gone end → SaysWhy line start end
+      says : (line : List ℕ) → Prints line gone end → SaysWhy address archive line start end
       says line printed = says_why medium back mid gone handed mid [] refl gates refl refl taken last line printed
 
       counts : end.counts ≡ record start.counts { media = counted_once start.counts.media back.faults }
       counts = counts_end medium back mid gone handed mid [] refl gates refl refl taken last
           ∙ ap (λ (h : HostView). record h.counts { media = counted_once h.counts.media back.faults }) handed.others
 
-      by_fault : (f : ArchiveFault) → fault ≡ f → RanServe state follows knows workers sessions status start end
+      by_fault : (f : ArchiveFault) → fault ≡ f → RanServe state follows knows address archive workers sessions status start end
       by_fault MediumFault is =
           let some : Rose 0 back.faults = subst (λ n. Rose n back.faults) fresh (rose is) in
           let one : end.counts.media ≡ start.counts.media + 1 = ap (λ c. c.media) counts ∙ once_some start.counts.media back.faults (risen back.faults some) in
-          subst (λ n. RanServe state follows knows workers sessions n start end) (sym (six is).0) (ran_6 one (inl (says _ (six is).1)) only)
+          subst (λ n. RanServe state follows knows address archive workers sessions n start end) (sym (six is).0) (ran_6 one (inl (says _ (six is).1)) only)
       by_fault NotArchive is =
           let said = says _ (eight is).1 in
-          subst (λ n. RanServe state follows knows workers sessions n start end) (sym (eight is).0) (ran_8 (record {
+          subst (λ n. RanServe state follows knows address archive workers sessions n start end) (sym (eight is).0) (ran_8 (record {
             medium = medium;
             back = back;
             media = media_pass medium back mid gone handed mid refl taken (ap (λ (h : HostView). h.media) last);
@@ -273,59 +273,59 @@ module _ {L : Type 0} (state : L → LinkState) (follows : L → L → Type 0) (
             counts = counts;
             line = said.1;
           }) only)
-      by_fault NoMemory is = subst (λ n. RanServe state follows knows workers sessions n start end) (sym (nine is).0) (ran_9 (inl (says _ (nine is).1)) only)
+      by_fault NoMemory is = subst (λ n. RanServe state follows knows address archive workers sessions n start end) (sym (nine is).0) (ran_9 (inl (says _ (nine is).1)) only)
 
   -- The archive was opened, and its doors could not be.
-  pub doors_unopened : (missing : Missing) (status : ℕ) (shelf : ShelfView) (mid left gone : HostView) → IsOpened start shelf mid → (missing ≡ Missed.Host → OpensNoDoors state 1 mid left) → (missing ≡ Missed.NoMemory → left ≡ mid)
+  pub doors_unopened : (missing : Missing) (status : ℕ) (shelf : ShelfView) (mid left gone : HostView) → IsOpened archive start shelf mid → (missing ≡ Missed.Host → OpensNoDoors state address 1 mid left) → (missing ≡ Missed.NoMemory → left ≡ mid)
       → (missing ≡ Missed.Source → ⊥) → TakesBackMedium left shelf.medium gone → (missing ≡ Missed.Host → (status ≡ 7) × Prints (codes "host fault\n") gone end)
-      → (missing ≡ Missed.NoMemory → (status ≡ 9) × Prints (codes "no memory\n") gone end) → end ≡ record gone { sink = end.sink } → RanServe state follows knows workers sessions status start end
+      → (missing ≡ Missed.NoMemory → (status ≡ 9) × Prints (codes "no memory\n") gone end) → end ≡ record gone { sink = end.sink } → RanServe state follows knows address archive workers sessions status start end
   doors_unopened missing status shelf mid left gone opened none same never taken seven nine last = by_cause missing refl
     where
       first : mid.gates ≡ start.gates
       first = ap (λ (h : HostView). h.gates) opened.handed.others
 
-      by_cause : (m : Missing) → missing ≡ m → RanServe state follows knows workers sessions status start end
+      by_cause : (m : Missing) → missing ≡ m → RanServe state follows knows address archive workers sessions status start end
       by_cause Missed.Source is = absurd (never is)
       by_cause Missed.Host is =
           let no = none is in
           let media : left.media ≡ mid.media = ap (λ (h : HostView). h.media) no.others in
-          let gates : Passes no.doors no.doors start.gates left.gates = subst (λ (s : Stock (DoorState LinkState)). Passes no.doors no.doors s left.gates) first no.gates in
+          let gates : PassesNamed address no.doors no.doors start.gates left.gates = subst (λ (s : Stock (DoorState LinkState)). PassesNamed address no.doors no.doors s left.gates) first no.gates in
           let quiet : left.sink ≡ mid.sink = ap (λ (h : HostView). h.sink) no.others in
           let before : Only mid left = only_is mid left _ no.others refl in
           let counts = counts_end opened.medium shelf.medium mid gone opened.handed left no.doors media gates before quiet taken last in
           let rose : end.counts.host ≡ start.counts.host + 1 = ap (λ c. c.host) counts ∙ (ap (λ (h : HostView). h.counts.host) no.others ∙ ap (λ (h : HostView). h.counts.host + 1) opened.handed.others) in
-          subst (λ n. RanServe state follows knows workers sessions n start end) (sym (seven is).0) (ran_7 (inl (omega (arith, rose)))
+          subst (λ n. RanServe state follows knows address archive workers sessions n start end) (sym (seven is).0) (ran_7 (inl (omega (arith, rose)))
           (inl (says_why opened.medium shelf.medium mid gone opened.handed left no.doors media gates before quiet taken last _ (seven is).1))
           (only_end opened.medium shelf.medium mid gone opened.handed left no.doors media gates before quiet taken last))
       by_cause Missed.NoMemory is =
           let media : left.media ≡ mid.media = ap (λ (h : HostView). h.media) (same is) in
-          let gates : Passes [] [] start.gates left.gates = passes_along [] [] start.gates start.gates left.gates (passes_none start.gates) (ap (λ (h : HostView). h.gates) (same is) ∙ first) in
+          let gates : PassesNamed address [] [] start.gates left.gates = named_along address [] [] start.gates start.gates left.gates (named_none address start.gates) (ap (λ (h : HostView). h.gates) (same is) ∙ first) in
           let quiet : left.sink ≡ mid.sink = ap (λ (h : HostView). h.sink) (same is) in
           let before : Only mid left = only_is mid left mid (same is) refl in
-          subst (λ n. RanServe state follows knows workers sessions n start end) (sym (nine is).0) (ran_9
+          subst (λ n. RanServe state follows knows address archive workers sessions n start end) (sym (nine is).0) (ran_9
           (inl (says_why opened.medium shelf.medium mid gone opened.handed left [] media gates before quiet taken last _ (nine is).1))
           (only_end opened.medium shelf.medium mid gone opened.handed left [] media gates before quiet taken last))
 
   -- The doors were opened, and memory ran out before the first accept.
-  pub serve_wanting : (status : ℕ) (shelf : ShelfView) (doors : List (DoorState L)) (now left gone : HostView) → IsReady state workers start shelf doors now → TakesBackDoors state now doors left
-      → TakesBackMedium left shelf.medium gone → status ≡ 9 → Prints (codes "no memory\n") gone end → end ≡ record gone { sink = end.sink } → RanServe state follows knows workers sessions status start end
+  pub serve_wanting : (status : ℕ) (shelf : ShelfView) (doors : List (DoorState L)) (now left gone : HostView) → IsReady state address archive workers start shelf doors now → TakesBackDoors state now doors left
+      → TakesBackMedium left shelf.medium gone → status ≡ 9 → Prints (codes "no memory\n") gone end → end ≡ record gone { sink = end.sink } → RanServe state follows knows address archive workers sessions status start end
   serve_wanting status shelf doors now left gone ready doors_back taken is line last =
       let mid = ready.mid in
       let passed = map (seen_door state) doors in
       let first : mid.gates ≡ start.gates = ap (λ (h : HostView). h.gates) ready.opened.handed.others in
-      let out : Passes passed [] start.gates now.gates = subst (λ (s : Stock (DoorState LinkState)). Passes passed [] s now.gates) first ready.hands.gates in
-      let gates : Passes passed passed start.gates left.gates = passes_all passed [] passed start.gates now.gates left.gates out (omega arith) doors_back.gates in
+      let out : PassesNamed address passed [] start.gates now.gates = subst (λ (s : Stock (DoorState LinkState)). PassesNamed address passed [] s now.gates) first ready.hands.gates in
+      let gates : PassesNamed address passed passed start.gates left.gates = passes_all address passed [] passed start.gates now.gates left.gates out (omega arith) doors_back.gates in
       let media : left.media ≡ mid.media = ap (λ (h : HostView). h.media) doors_back.others ∙ ap (λ (h : HostView). h.media) ready.hands.others in
       let quiet : left.sink ≡ mid.sink = ap (λ (h : HostView). h.sink) doors_back.others ∙ ap (λ (h : HostView). h.sink) ready.hands.others in
       let before : Only mid left = only_then mid now left (only_is mid now _ ready.hands.others refl) (only_is now left _ doors_back.others refl) in
-      subst (λ n. RanServe state follows knows workers sessions n start end) (sym is) (ran_9
+      subst (λ n. RanServe state follows knows address archive workers sessions n start end) (sym is) (ran_9
       (inl (says_why ready.opened.medium shelf.medium mid gone ready.opened.handed left passed media gates before quiet taken last _ line))
       (only_end ready.opened.medium shelf.medium mid gone ready.opened.handed left passed media gates before quiet taken last))
 
   -- It was served, and closed.
-  pub served_closed : (status : ℕ) (opening closing : ShelfView) (ds es : List (DoorState L)) (reports : List WorkerReport) (now : HostView) → IsReady state workers start opening ds now
+  pub served_closed : (status : ℕ) (opening closing : ShelfView) (ds es : List (DoorState L)) (reports : List WorkerReport) (now : HostView) → IsReady state address archive workers start opening ds now
       → ClosesWith state follows knows sessions ds es reports (front opening) (front closing) → length es ≡ length ds → AreReports sessions ds es reports → IsClosed state reports closing es status now end
-      → RanServe state follows knows workers sessions status start end
+      → RanServe state follows knows address archive workers sessions status start end
   served_closed status opening closing ds es reports now ready closes same are closed = by_faults closing.medium.faults refl
     where
       mid : HostView
@@ -346,13 +346,13 @@ module _ {L : Type 0} (state : L → LinkState) (follows : L → L → Type 0) (
       media_at : b.media ≡ mid.media
       media_at = ap (λ (h : HostView). h.media) closed.doors_back.others ∙ (ap (λ (h : HostView). h.media) closed.told.others ∙ ap (λ (h : HostView). h.media) ready.hands.others)
 
-      gates : Passes given (map (seen_door state) es) start.gates end.gates
+      gates : PassesNamed address given (map (seen_door state) es) start.gates end.gates
       gates =
           let first : mid.gates ≡ start.gates = ap (λ (h : HostView). h.gates) ready.opened.handed.others in
-          let out : Passes given [] start.gates now.gates = subst (λ (s : Stock (DoorState LinkState)). Passes given [] s now.gates) first ready.hands.gates in
-          let out_told : Passes given [] start.gates a.gates = passes_along given [] start.gates now.gates a.gates out (ap (λ (h : HostView). h.gates) closed.told.others) in
+          let out : PassesNamed address given [] start.gates now.gates = subst (λ (s : Stock (DoorState LinkState)). PassesNamed address given [] s now.gates) first ready.hands.gates in
+          let out_told : PassesNamed address given [] start.gates a.gates = named_along address given [] start.gates now.gates a.gates out (ap (λ (h : HostView). h.gates) closed.told.others) in
           let few : length (map (seen_door state) es) ≤ length given = omega (arith, length-map es (seen_door state), length-map ds (seen_door state), same) in
-          passes_along given (map (seen_door state) es) start.gates b.gates end.gates (passes_all given [] (map (seen_door state) es) start.gates a.gates b.gates out_told (omega (arith, few)) closed.doors_back.gates)
+          named_along address given (map (seen_door state) es) start.gates b.gates end.gates (passes_all address given [] (map (seen_door state) es) start.gates a.gates b.gates out_told (omega (arith, few)) closed.doors_back.gates)
           (ap (λ (h : HostView). h.gates) closed.medium_back.others)
 
       only : Only start end
@@ -400,10 +400,10 @@ module _ {L : Type 0} (state : L → LinkState) (follows : L → L → Type 0) (
         holds = holds;
       }
 
-      tells : Tells state follows knows workers sessions start end reports closing.list
+      tells : Tells state follows knows address archive workers sessions start end reports closing.list
       tells = by_printed closed.told.among
         where
-          by_printed : (closed.printed ≡ 0) ⊎ (closed.printed ≡ 5) ⊎ (closed.printed ≡ 9) → Tells state follows knows workers sessions start end reports closing.list
+          by_printed : (closed.printed ≡ 0) ⊎ (closed.printed ≡ 5) ⊎ (closed.printed ≡ 9) → Tells state follows knows address archive workers sessions start end reports closing.list
           by_printed (inl e) = inl (on_sinks (writes.Prints text) (closed.told.line (inl e)))
           by_printed (inr (inl e)) = inl (on_sinks (writes.Prints text) (closed.told.line (inr e)))
           by_printed (inr (inr e)) = inr (on_sinks (writes.Prints (codes "no memory\n")) (closed.told.no_memory e))
@@ -411,22 +411,22 @@ module _ {L : Type 0} (state : L → LinkState) (follows : L → L → Type 0) (
       status_by : (n : ℕ) → serving_status faults reports ≡ n → status ≡ (if n == 0 then closed.printed else n)
       status_by n is = closed.says ∙ ap (λ k. if k == 0 then closed.printed else k) is
 
-      ends_as : (n : ℕ) → status ≡ n → RanServe state follows knows workers sessions n start end → RanServe state follows knows workers sessions status start end
-      ends_as n is ran = subst (λ k. RanServe state follows knows workers sessions k start end) (sym is) ran
+      ends_as : (n : ℕ) → status ≡ n → RanServe state follows knows address archive workers sessions n start end → RanServe state follows knows address archive workers sessions status start end
+      ends_as n is ran = subst (λ k. RanServe state follows knows address archive workers sessions k start end) (sym is) ran
 
       none_counted : faults ≡ 0 → any_door_failed reports ≡ false → end.counts ≡ start.counts
       none_counted whole none = counts ∙ (ap (λ n. record start.counts { media = n; doors = counted_doors start.counts.doors es }) (once_none start.counts.media faults whole)
           ∙ ap (λ n. record start.counts { doors = n }) (counted_none state sessions start.counts.doors ds es reports ready.hands.new are none))
 
-      all_well : faults ≡ 0 → any_door_failed reports ≡ false → serving_status faults reports ≡ 0 → RanServe state follows knows workers sessions status start end
+      all_well : faults ≡ 0 → any_door_failed reports ≡ false → serving_status faults reports ≡ 0 → RanServe state follows knows address archive workers sessions status start end
       all_well whole none fine = by_printed closed.told.among
         where
-          by_printed : (closed.printed ≡ 0) ⊎ (closed.printed ≡ 5) ⊎ (closed.printed ≡ 9) → RanServe state follows knows workers sessions status start end
+          by_printed : (closed.printed ≡ 0) ⊎ (closed.printed ≡ 5) ⊎ (closed.printed ≡ 9) → RanServe state follows knows address archive workers sessions status start end
           by_printed (inl e) = ends_as 0 (status_by 0 fine ∙ e) (ran_0 (served _ (fine, on_sinks (writes.PrintsWhole text) (closed.told.whole e))) (on_sinks writes.IsSteady (closed.told.steady e)) (none_counted whole none) only)
           by_printed (inr (inl e)) = ends_as 5 (status_by 0 fine ∙ e) (ran_5 (served _ (fine, on_sinks (writes.PrintsFront text) (closed.told.cut_off e))) (on_sinks writes.HasFailed (closed.told.cause e)) (none_counted whole none) only)
           by_printed (inr (inr e)) = ends_as 9 (status_by 0 fine ∙ e) (ran_9 (inr (served _ (inr (fine, on_sinks (writes.Prints (codes "no memory\n")) (closed.told.no_memory e))))) only)
 
-      by_door : (failed : Bool) → any_door_failed reports ≡ failed → faults ≡ 0 → any_ran_out reports ≡ false → RanServe state follows knows workers sessions status start end
+      by_door : (failed : Bool) → any_door_failed reports ≡ failed → faults ≡ 0 → any_ran_out reports ≡ false → RanServe state follows knows address archive workers sessions status start end
       by_door false is whole room = all_well whole is (status_0 faults reports whole room is)
       by_door true is whole room =
           let seven = status_7 faults reports whole room is in
@@ -434,13 +434,13 @@ module _ {L : Type 0} (state : L → LinkState) (follows : L → L → Type 0) (
           let ends : end.counts.doors ≡ counted_doors start.counts.doors es = ap (λ (c : Counts). c.doors) counts in
           ends_as 7 (status_by 7 seven) (ran_7 (inr (omega (arith, rose, ends))) (inr (served _ (seven, tells))) only)
 
-      by_memory : (out : Bool) → any_ran_out reports ≡ out → faults ≡ 0 → RanServe state follows knows workers sessions status start end
+      by_memory : (out : Bool) → any_ran_out reports ≡ out → faults ≡ 0 → RanServe state follows knows address archive workers sessions status start end
       by_memory false is whole = by_door (any_door_failed reports) refl whole is
       by_memory true is whole =
           let nine = status_9 faults reports whole is in
           ends_as 9 (status_by 9 nine) (ran_9 (inr (served _ (inl (nine, tells)))) only)
 
-      by_faults : (n : ℕ) → faults ≡ n → RanServe state follows knows workers sessions status start end
+      by_faults : (n : ℕ) → faults ≡ n → RanServe state follows knows address archive workers sessions status start end
       by_faults zero is = by_memory (any_ran_out reports) refl is
       by_faults (suc n) is =
           let some : 0 < faults = omega (arith, is) in
@@ -448,12 +448,12 @@ module _ {L : Type 0} (state : L → LinkState) (follows : L → L → Type 0) (
           ends_as 6 (status_by 6 six) (ran_6 (ap (λ (c : Counts). c.media) counts ∙ once_some start.counts.media faults some) (inr (served _ (six, tells))) only)
 
 -- a host that tells a medium which is no archive has served nothing
-pub serve_refuses : {L : Type 0} (state : L → LinkState) (follows : L → L → Type 0) (knows : ℕ → Bool) (workers sessions status : ℕ) (start end : HostView) → RanServe state follows knows workers sessions status start end
+pub serve_refuses : {L : Type 0} (state : L → LinkState) (follows : L → L → Type 0) (knows : ℕ → Bool) (address archive : List ℕ) (workers sessions status : ℕ) (start end : HostView) → RanServe state follows knows address archive workers sessions status start end
     → ServeRefuses status start end
-serve_refuses state follows knows workers sessions status start end ran content next never same = by_status ran.among
+serve_refuses state follows knows address archive workers sessions status start end ran content next never same = by_status ran.among
   where
-    not_served : (P : List WorkerReport → List StoredValue → ℕ → Type 0) → OfServed state follows knows workers sessions P start end → ⊥
-    not_served P served = never (of_next start.media.coming end.media.coming served.medium next.medium next.later content next.media served.media.coming next.told served.is_archive)
+    not_served : (P : List WorkerReport → List StoredValue → ℕ → Type 0) → OfServed state follows knows address archive workers sessions P start end → ⊥
+    not_served P served = never (of_next start.media.coming end.media.coming served.medium next.medium next.later content next.media served.media.passes.coming next.told served.is_archive)
       where
         of_next : (told after : Option (List MediumState)) (m n : MediumState) (later : List MediumState) (c : Content) → told ≡ Some (n ∷ later) → LosesFront told (m ∷ []) after → n.content ≡ Some c
             → IfTold m.content (λ k. IsArchive k.reads) → IsArchive c.reads
@@ -473,9 +473,9 @@ serve_refuses state follows knows workers sessions status start end ran content 
     by_status (inr (inr (inr (inr (inr e))))) = inr e
 
 -- and where nothing failed, it was served, or is no archive, or memory ran out
-pub serve_serves : {L : Type 0} (state : L → LinkState) (follows : L → L → Type 0) (knows : ℕ → Bool) (workers sessions status : ℕ) (start end : HostView) → RanServe state follows knows workers sessions status start end
+pub serve_serves : {L : Type 0} (state : L → LinkState) (follows : L → L → Type 0) (knows : ℕ → Bool) (address archive : List ℕ) (workers sessions status : ℕ) (start end : HostView) → RanServe state follows knows address archive workers sessions status start end
     → ServeServes status start end
-serve_serves state follows knows workers sessions status start end ran same steady = by_status ran.among
+serve_serves state follows knows address archive workers sessions status start end ran same steady = by_status ran.among
   where
     by_status : (status ≡ 0) ⊎ (status ≡ 5) ⊎ (status ≡ 6) ⊎ (status ≡ 7) ⊎ (status ≡ 8) ⊎ (status ≡ 9) → (status ≡ 0) ⊎ (status ≡ 8) ⊎ (status ≡ 9)
     by_status (inl e) = inl e

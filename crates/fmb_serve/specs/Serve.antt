@@ -12,7 +12,7 @@ use Rattle.server_loop.specs.Evidence.{ClosesWith}
 use Rattle.server_loop.specs.Workers.{AreReports}
 use Rattle.server_loop.specs.declared.report.WorkerReport.{WorkerReport}
 use Rattle.fmb_host.specs.Host.{HostView, counted_once, seen_door}
-use Rattle.fmb_host.specs.Stocks.{Passes}
+use Rattle.fmb_host.specs.Stocks.{PassesNamed}
 use Rattle.fmb_io.specs.Printed.{Prints, PrintsFront, PrintsWhole, SinkFailed, SinkSteady}
 use Rattle.fmb_serve.specs.Lines.{serve_lines}
 use Rattle.fmb_serve.specs.Statuses.{serving_status}
@@ -22,24 +22,25 @@ abbrev pub counted_doors : {L : Type 0} → ℕ → List (DoorState L) → ℕ
 counted_doors count [] = count
 counted_doors count (d ∷ ds) = counted_doors (counted_once count d.faults) ds
 
--- Nothing was served, and all that was opened went back: the archive's medium, if it was, and the doors, as they were handed out.
-pub record IsUnserved (before after : HostView) : Type 0 where
+-- Nothing was served, and all that was opened went back: the archive's medium, if it was, and the doors at the address, as they were
+-- handed out.
+pub record IsUnserved (address archive : List ℕ) (before after : HostView) : Type 0 where
   pub given : List MediumState
   pub back : List MediumState
   pub same_count : length back ≡ length given
-  pub media : Passes given back before.media after.media
+  pub media : PassesNamed archive given back before.media after.media
   pub doors : List (DoorState LinkState)
-  pub gates : Passes doors doors before.gates after.gates
+  pub gates : PassesNamed address doors doors before.gates after.gates
 
 -- nothing was served, and this line says why
-abbrev pub SaysWhy : List ℕ → HostView → HostView → Type 0
-SaysWhy line before after = IsUnserved before after × Prints line before after
+abbrev pub SaysWhy : (address archive line : List ℕ) → HostView → HostView → Type 0
+SaysWhy address archive line before after = IsUnserved address archive before after × Prints line before after
 
--- What was opened is no archive. Nothing was written of it, and it went back.
-pub record IsNotArchive (before after : HostView) : Type 0 where
+-- What was opened under the archive's name is no archive. Nothing was written of it, and it went back.
+pub record IsNotArchive (archive : List ℕ) (before after : HostView) : Type 0 where
   pub medium : MediumState
   pub back : MediumState
-  pub media : Passes (medium ∷ []) (back ∷ []) before.media after.media
+  pub media : PassesNamed archive (medium ∷ []) (back ∷ []) before.media after.media
   pub gates : after.gates ≡ before.gates
   pub is : IfTold medium.content (λ c. IsArchive c.reads → ⊥)
   pub not_written : back.content ≡ told after_sync medium.content
@@ -53,16 +54,17 @@ pub record HasNextMedium (content : Content) (host : HostView) : Type 0 where
   pub media : host.media.coming ≡ Some (medium ∷ later)
   pub told : medium.content ≡ Some content
 
-module _ {L : Type 0} (state : L → LinkState) (follows : L → L → Type 0) (knows : ℕ → Bool) (workers sessions : ℕ) where
-  -- An archive was opened and served at doors, of which each worker had one, and this holds of the workers' reports, of the records
-  -- that the archive closes with, and of how often its medium had failed then. Archive and doors went back.
+module _ {L : Type 0} (state : L → LinkState) (follows : L → L → Type 0) (knows : ℕ → Bool) (address archive : List ℕ) (workers sessions : ℕ) where
+  -- The archive of this name was opened and served at doors of this address, of which each worker had one, and this holds of the
+  -- workers' reports, of the records that the archive closes with, and of how often its medium had failed then. Archive and doors went
+  -- back.
   pub record OfServed (P : List WorkerReport → List StoredValue → ℕ → Type 0) (before after : HostView) : Type 0 where
     pub medium : MediumState
     pub back : MediumState
-    pub media : Passes (medium ∷ []) (back ∷ []) before.media after.media
+    pub media : PassesNamed archive (medium ∷ []) (back ∷ []) before.media after.media
     pub doors_before : List (DoorState L)
     pub doors_after : List (DoorState L)
-    pub gates : Passes (map (seen_door state) doors_before) (map (seen_door state) doors_after) before.gates after.gates
+    pub gates : PassesNamed address (map (seen_door state) doors_before) (map (seen_door state) doors_after) before.gates after.gates
     pub count : length doors_before ≡ workers
     pub is_archive : IfTold medium.content (λ c. IsArchive c.reads)
     pub opening : Shelved
@@ -91,16 +93,16 @@ module _ {L : Type 0} (state : L → LinkState) (follows : L → L → Type 0) (
     pub sink_cause : status ≡ 5 → SinkFailed before after
     -- 6: the archive failed, as it was opened or while it was served, and the host has counted that
     pub medium_cause : status ≡ 6 → after.counts.media ≡ before.counts.media + 1
-    pub medium_fault : status ≡ 6 → SaysWhy (codes "medium fault\n") before after
+    pub medium_fault : status ≡ 6 → SaysWhy address archive (codes "medium fault\n") before after
         ⊎ OfServed (λ reports list faults. (serving_status faults reports ≡ 6) × Tells before after reports list) before after
     -- 7: the host failed to open the archive or a door, or a door failed, and the host has counted that
     pub host_cause : status ≡ 7 → (before.counts.host < after.counts.host) ⊎ (before.counts.doors < after.counts.doors)
-    pub host_fault : status ≡ 7 → SaysWhy (codes "host fault\n") before after
+    pub host_fault : status ≡ 7 → SaysWhy address archive (codes "host fault\n") before after
         ⊎ OfServed (λ reports list faults. (serving_status faults reports ≡ 7) × Tells before after reports list) before after
     -- 8: it is no archive
-    pub refused : status ≡ 8 → IsNotArchive before after
+    pub refused : status ≡ 8 → IsNotArchive archive before after
     -- 9: memory ran out before it was served, in a session, or for the lines
-    pub no_memory : status ≡ 9 → SaysWhy (codes "no memory\n") before after
+    pub no_memory : status ≡ 9 → SaysWhy address archive (codes "no memory\n") before after
         ⊎ OfServed (λ reports list faults. ((serving_status faults reports ≡ 9) × Tells before after reports list)
         ⊎ ((serving_status faults reports ≡ 0) × Prints (codes "no memory\n") before after)) before after
     pub counts_before : (status ≡ 0) ⊎ (status ≡ 5) → after.counts ≡ before.counts

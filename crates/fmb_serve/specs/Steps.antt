@@ -24,19 +24,19 @@ pub record IsTold (text : List ℕ) (status : ℕ) (before after : HostView) : T
   pub no_memory : status ≡ 9 → Prints (codes "no memory\n") before after
   pub others : after ≡ record before { sink = after.sink }
 
--- an archive was opened on a medium that the host had handed out
-pub record IsOpened (start : HostView) (shelf : ShelfView) (now : HostView) : Type 0 where
+-- an archive was opened on a medium that the host had handed out under its name
+pub record IsOpened (archive : List ℕ) (start : HostView) (shelf : ShelfView) (now : HostView) : Type 0 where
   pub medium : MediumState
-  pub handed : HandsOutMedium start medium now
+  pub handed : HandsOutMedium start archive medium now
   pub is_archive : IfTold medium.content (λ c. IsArchive c.reads)
   pub list : IfTold medium.content (λ c. shelf.list ≡ list_of (entries_of c.reads))
 
 module _ {L : Type 0} (state : L → LinkState) where
-  -- and doors were opened for it, one for each worker
-  pub record IsReady (workers : ℕ) (start : HostView) (shelf : ShelfView) (doors : List (DoorState L)) (now : HostView) : Type 0 where
+  -- and doors were opened for it at the address, one for each worker
+  pub record IsReady (address archive : List ℕ) (workers : ℕ) (start : HostView) (shelf : ShelfView) (doors : List (DoorState L)) (now : HostView) : Type 0 where
     pub mid : HostView
-    pub opened : IsOpened start shelf mid
-    pub hands : HandsOutDoors state mid doors now
+    pub opened : IsOpened archive start shelf mid
+    pub hands : HandsOutDoors state mid address doors now
     pub count : length doors ≡ workers
 
   -- What serving came to was told, and doors and archive went back.

@@ -26,10 +26,10 @@ pub(crate) fn open_doors<H: Host>(
 ) -> Result<Vec<H::Gate>, Missing>
     requires small { AreSmall (H.view host.old).counts }
     requires few { workers ≤ 64 }
-    ensures opened { IfOk result (λ doors. HandsOutDoors H.Gate.L.state (H.view host.old) (map H.Gate.state doors.items) (H.view host.new)) }
+    ensures opened { IfOk result (λ doors. HandsOutDoors H.Gate.L.state (H.view host.old) address.now (map H.Gate.state doors.items) (H.view host.new)) }
     ensures count { IfOk result (λ doors. length doors.items ≡ workers) }
     ensures links { IfOk result (λ doors. All (λ d. (H.Gate.state d).link_faults < 2 ^ 63) doors.items) }
-    ensures host_fault { result ≡ Err Missing.Host → OpensNoDoors H.Gate.L.state 1 (H.view host.old) (H.view host.new) }
+    ensures host_fault { result ≡ Err Missing.Host → OpensNoDoors H.Gate.L.state address.now 1 (H.view host.old) (H.view host.new) }
     ensures no_memory { result ≡ Err Missing.NoMemory → H.view host.new ≡ H.view host.old }
     ensures among { result ≢ Err Missing.Source }
 {

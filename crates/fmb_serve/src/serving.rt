@@ -1,4 +1,4 @@
-ghost use Rattle.std.specs.Prelude.{◌≡◌, ◌<◌, ◌≤◌, ◌^◌, ◌-◌, ◌+◌, ℕ, ◌==◌, if◌then◌else◌, codes, false, length, map, All};
+ghost use Rattle.std.specs.Prelude.{◌≡◌, ◌<◌, ◌≤◌, ◌^◌, ◌-◌, ◌+◌, ℕ, List, ◌==◌, if◌then◌else◌, codes, false, length, map, All};
 ghost use Rattle.fmb_host.specs.Host.{AreSmall, HostView};
 ghost use Rattle.fmb_io.specs.Printed.{Prints};
 ghost use Rattle.session_core.specs.Knowing.{knows};
@@ -82,8 +82,8 @@ where
     requires some_sessions { 0 < sessions }
     requires few_sessions { sessions ≤ 100000 }
     requires up { shelf.down ≡ false }
-    ensures { (start : HostView) (workers : ℕ) → IsReady H.Gate.L.state workers start shelf (map H.Gate.state doors.items) (H.view host.old)
-        → RanServe H.Gate.L.state H.Gate.L.follows (knows known.now) workers sessions result start (H.view host.new) }
+    ensures { (start : HostView) (address archive : List ℕ) (workers : ℕ) → IsReady H.Gate.L.state address archive workers start shelf (map H.Gate.state doors.items) (H.view host.old)
+        → RanServe H.Gate.L.state H.Gate.L.follows (knows known.now) address archive workers sessions result start (H.view host.new) }
 {
     match serve(rt, alloc, doors, shelf, known, sessions) {
         Ok(report) => close(alloc, host, report),
@@ -116,8 +116,8 @@ where
     requires some_sessions { 0 < sessions }
     requires few_sessions { sessions ≤ 100000 }
     requires up { shelf.down ≡ false }
-    ensures { (start : HostView) → IsOpened start shelf (H.view host.old)
-        → RanServe H.Gate.L.state H.Gate.L.follows (knows known.now) workers sessions result start (H.view host.new) }
+    ensures { (start : HostView) (archive : List ℕ) → IsOpened archive start shelf (H.view host.old)
+        → RanServe H.Gate.L.state H.Gate.L.follows (knows known.now) address.now archive workers sessions result start (H.view host.new) }
 {
     match open_doors(alloc, host, address, workers) {
         Ok(doors) => serve_at(rt, alloc, host, doors, shelf, known, sessions),
@@ -148,41 +148,6 @@ fn refuse<H: Host>(host: &mut H, fault: ArchiveFault) -> u8
     }
 }
 
-// Opens the archive, and serves it.
-fn serve_archive<R: Threads + Wait + Sync, H: Host>(
-    rt: &R,
-    alloc: Global,
-    host: &mut H,
-    address: &str,
-    archive: &str,
-    known: &Known,
-    workers: u32,
-    sessions: u32,
-) -> u8
-where
-    H::File: Send,
-    H::Gate: Send,
-    <H::Gate as Door>::L: Send,
-    requires small { AreSmall (H.view host.old).counts }
-    requires some { 0 < workers }
-    requires few { workers ≤ 64 }
-    requires some_sessions { 0 < sessions }
-    requires few_sessions { sessions ≤ 100000 }
-    ensures { RanServe H.Gate.L.state H.Gate.L.follows (knows known.now) workers sessions result (H.view host.old) (H.view host.new) }
-{
-    let Ok(medium) = host.open_medium(archive) else {
-        say(host, b"host fault\n");
-        return HOST_FAULT;
-    };
-    match Shelf::open(alloc, medium) {
-        Ok(shelf) => serve_shelf(rt, alloc, host, address, shelf, known, workers, sessions),
-        Err((fault, medium)) => {
-            host.medium_back(medium);
-            refuse(host, fault)
-        }
-    }
-}
-
 /// Serves the archive of this name at an address, by 1 to 64 workers with 1 to 100,000 sessions each, which are those of the devices
 /// that are known. It opens archive and doors, serves, prints what came of each session and what the archive has then, and gives all
 /// back that it opened. Returns the status. It may wait.
@@ -205,9 +170,19 @@ where
     requires few { workers ≤ 64 }
     requires some_sessions { 0 < sessions }
     requires few_sessions { sessions ≤ 100000 }
-    ensures ran { RanServe H.Gate.L.state H.Gate.L.follows (knows known.now) workers sessions result (H.view host.old) (H.view host.new) }
+    ensures ran { RanServe H.Gate.L.state H.Gate.L.follows (knows known.now) address.now archive.now workers sessions result (H.view host.old) (H.view host.new) }
     ensures refuses { ServeRefuses result (H.view host.old) (H.view host.new) }
     ensures serves { ServeServes result (H.view host.old) (H.view host.new) }
 {
-    serve_archive(rt, alloc, host, address, archive, known, workers, sessions)
+    let Ok(medium) = host.open_medium(archive) else {
+        say(host, b"host fault\n");
+        return HOST_FAULT;
+    };
+    match Shelf::open(alloc, medium) {
+        Ok(shelf) => serve_shelf(rt, alloc, host, address, shelf, known, workers, sessions),
+        Err((fault, medium)) => {
+            host.medium_back(medium);
+            refuse(host, fault)
+        }
+    }
 }

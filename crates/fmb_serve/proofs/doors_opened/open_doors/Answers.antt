@@ -10,7 +10,7 @@ workers-init g c = record {
   room = search rules;
   count = search rules;
   links = search rules;
-  out = hands_none g.H.Gate.L.Link.state _ _ (ap (λ ds. map g.H.Gate.Door.state ds) c.in-Ok.ensures.items);
+  out = hands_none g.H.Gate.L.Link.state _ _ _ (ap (λ ds. map g.H.Gate.Door.state ds) c.in-Ok.ensures.items);
 }
 
 pub workers-preserved : goal.workers-preserved
@@ -22,11 +22,11 @@ workers-preserved g c =
       count = search rules;
       links = subst (λ ds. All (λ d. (g.H.Gate.Door.state d).link_faults < 2 ^ 63) ds) (sym c.push_reserved.ensures.items)
           (All-push (λ d. (g.H.Gate.Door.state d).link_faults < 2 ^ 63) _ c.in-Ok-door.door inv.links (omega (arith, none)));
-      out = subst (λ ds. HandsOutDoors g.H.Gate.L.Link.state (g.H.Host.view c.args.host.now) ds (g.H.Host.view c.door.new.self))
+      out = subst (λ ds. HandsOutDoors g.H.Gate.L.Link.state (g.H.Host.view c.args.host.now) c.args.address.now ds (g.H.Host.view c.door.new.self))
           (sym (ap (λ ds. map g.H.Gate.Door.state ds) c.push_reserved.ensures.items ∙ map-append g.H.Gate.Door.state c.workers.doors.items (c.in-Ok-door.door ∷ [])))
-          (hands_more g.H.Gate.L.Link.state _ _ _ _ _ inv.out c.in-Ok-door.ensures.handed c.in-Ok-door.ensures.unused);
+          (hands_more g.H.Gate.L.Link.state _ _ _ _ _ _ inv.out c.in-Ok-door.ensures.handed c.in-Ok-door.ensures.unused);
     }
 
 pub returns-in-Err-clause-host_fault : goal.returns-in-Err-clause-host_fault
 returns-in-Err-clause-host_fault g c = λ e.
-    opens_none g.H.Gate.L.Link.state _ _ _ _ _ c.workers.invariant.out c.in-Err.ensures.failed c.give_back.ensures
+    opens_none g.H.Gate.L.Link.state _ _ _ _ _ _ c.workers.invariant.out c.in-Err.ensures.failed c.give_back.ensures

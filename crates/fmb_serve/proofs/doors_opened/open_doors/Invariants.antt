@@ -7,5 +7,5 @@ invariant-workers g l = record {
   room : l.workers ≤ vec_capacity l.doors;
   count : length l.doors.items ≡ l.worker;
   links : All (λ d. (g.H.Gate.Door.state d).link_faults < 2 ^ 63) l.doors.items;
-  out : HandsOutDoors g.H.Gate.L.Link.state (g.H.Host.view l.fn.host) (map g.H.Gate.Door.state l.doors.items) (g.H.Host.view l.host);
+  out : HandsOutDoors g.H.Gate.L.Link.state (g.H.Host.view l.fn.host) l.address (map g.H.Gate.Door.state l.doors.items) (g.H.Host.view l.host);
 }
