@@ -26,9 +26,9 @@ use Rattle.fmb_drive.specs.Runs.{Acquires, Begins, BeginsConnection, BeginsLine,
 use Rattle.fmb_drive.specs.Scripts.{FixesFit}
 use Rattle.fmb_drive.specs.Steps.{DoesAll, DoesOne, MakesOne, MayPowerUp, StaysUp, StoresAll, driver}
 use Rattle.fmb_drive.specs.declared.stop.Stop.{Stop}
-use Rattle.fmb_host.proofs.Stocks.{passes_none}
+use Rattle.fmb_host.proofs.Stocks.{named_none}
 use Rattle.fmb_host.specs.Host.{HostView}
-use Rattle.fmb_host.specs.Stocks.{Passes}
+use Rattle.fmb_host.specs.Stocks.{PassesNamed}
 use Rattle.fmb_io.specs.Printed.{PrintsWhole}
 use Rattle.medium_model.specs.State.{MediumState}
 use Rattle.record_codecs.specs.SomeRecord.{IsSomeRecord}
@@ -39,8 +39,8 @@ use Rattle.trial_model.specs.declared.script.ScriptLine.TheVariants as Line
 use Rattle.trial_model.specs.declared.script.Who.TheVariants as Who
 
 -- ---- lines at which nothing is done
-pub does_quiet : (d : Driver) (n : ℕ) (line : ScriptLine) (a : Stage) (x : HostView) → a.ring.down ≡ false → DoesLine d n line a [] a → DoesOne d n line a a x x
-does_quiet d n line a x up does = record { log = []; does = does; printed = prints_none d.imei x; steady = refl; wires = passes_none x.wires; stays = stays_none a.ring up; others = refl }
+pub does_quiet : (address : List ℕ) (d : Driver) (n : ℕ) (line : ScriptLine) (a : Stage) (x : HostView) → a.ring.down ≡ false → DoesLine d n line a [] a → DoesOne address d n line a a x x
+does_quiet address d n line a x up does = record { log = []; does = does; printed = prints_none d.imei x; steady = refl; wires = named_none address x.wires; stays = stays_none a.ring up; others = refl }
 
 abbrev pub IsIdle : ScriptLine → Type 0
 IsIdle (Line.Device imei codec slots order period distance angle speed known) = Unit {0}
@@ -66,8 +66,8 @@ idle d n (Line.Power (Who.Device imei)) a is = absurd is
 idle d n (Line.Power Who.Server) a is = (refl, refl)
 idle d n (Line.Fuse who calls tear) a is = (refl, refl)
 
-pub does_idle : (d : Driver) (n : ℕ) (line it : ScriptLine) (a : Stage) (x : HostView) → a.ring.down ≡ false → line ≡ it → IsIdle it → DoesOne d n line a a x x
-does_idle d n line it a x up same is = does_quiet d n line a x up (idle d n line a (subst IsIdle (sym same) is))
+pub does_idle : (address : List ℕ) (d : Driver) (n : ℕ) (line it : ScriptLine) (a : Stage) (x : HostView) → a.ring.down ≡ false → line ≡ it → IsIdle it → DoesOne address d n line a a x x
+does_idle address d n line it a x up same is = does_quiet address d n line a x up (idle d n line a (subst IsIdle (sym same) is))
 
 -- ---- connections
 abbrev pub limit_of : ScriptLine → Option ℕ
@@ -107,8 +107,8 @@ module _ (d : Driver) (n limit : ℕ) where
   line_begins (Line.Power who) a log now is c = absurd (cc)
   line_begins (Line.Fuse who calls tear) a log now is c = absurd (cc)
 
-  pub does_connect : (line it : ScriptLine) (a b : Stage) (x y : HostView) → line ≡ it → limit_of it ≡ Some limit → b.watching ≡ a.watching → MakesOne d.imei d.order n limit a.ring b.ring x y → DoesOne d n line a b x y
-  does_connect line it a b x y same is watching m = record {
+  pub does_connect : (address : List ℕ) (line it : ScriptLine) (a b : Stage) (x y : HostView) → line ≡ it → limit_of it ≡ Some limit → b.watching ≡ a.watching → MakesOne address d.imei d.order n limit a.ring b.ring x y → DoesOne address d n line a b x y
+  does_connect address line it a b x y same is watching m = record {
     log = connected m.c ∷ [];
     does = line_connects line a (connected m.c ∷ []) b (ap limit_of same ∙ is) (record { c = m.c; is = m.is; line = m.line; most = m.most; before = m.before; after = after; log = refl });
     printed = prints_one d.imei (connected m.c) x y (subst (λ (k : ℕ). PrintsWhole (round_line k m.c.end) x y) (sym m.line) m.printed);
@@ -121,10 +121,10 @@ module _ (d : Driver) (n limit : ℕ) where
       after : b ≡ record a { ring = m.c.after }
       after = ap (λ (r : RingView). let s : Stage = record { ring = r; watching = b.watching } in s) m.after ∙ ap (λ (w : Watching). let s : Stage = record { ring = m.c.after; watching = w } in s) watching
 
-  pub connect_halts : (s : Stop) (imei slots : ℕ) (line it : ScriptLine) (a : Stage) (x y : HostView) (old new : MediumState) → line ≡ it → limit_of it ≡ Some limit
-      → Halts (BeginsConnection d.imei d.order n limit a.ring) s imei slots x y old new → Halts (BeginsLine d n line a) s imei slots x y old new
-  connect_halts s imei slots line it a x y old new same is h =
-      halts_map (BeginsConnection d.imei d.order n limit a.ring) (BeginsLine d n line a) s imei slots x y old new (λ log now c. line_begins line a log now (ap limit_of same ∙ is) c) h
+  pub connect_halts : (address : List ℕ) (s : Stop) (imei slots : ℕ) (line it : ScriptLine) (a : Stage) (x y : HostView) (old new : MediumState) → line ≡ it → limit_of it ≡ Some limit
+      → Halts address (BeginsConnection d.imei d.order n limit a.ring) s imei slots x y old new → Halts address (BeginsLine d n line a) s imei slots x y old new
+  connect_halts address s imei slots line it a x y old new same is h =
+      halts_map address (BeginsConnection d.imei d.order n limit a.ring) (BeginsLine d n line a) s imei slots x y old new (λ log now c. line_begins line a log now (ap limit_of same ∙ is) c) h
 
 -- ---- fixes
 
@@ -144,26 +144,26 @@ stores_no_links rs a b log (more rs' r a' b' c' log' s keeps) =
     )
 
 module _ (d : Driver) (n who : ℕ) (fix : Fix) (a : Stage) where
-  pub does_fix : (rs : List Record) (b : Stage) (x y : HostView) → (who == d.imei) ≡ true → rs ≡ (decided d.settings a.watching fix).records → b.watching ≡ (decided d.settings a.watching fix).watching
-      → StoresAll d.imei rs a.ring b.ring x y → DoesOne d n (Line.Fix who fix) a b x y
-  does_fix rs b x y own same watching st = record {
+  pub does_fix : (address : List ℕ) (rs : List Record) (b : Stage) (x y : HostView) → (who == d.imei) ≡ true → rs ≡ (decided d.settings a.watching fix).records → b.watching ≡ (decided d.settings a.watching fix).watching
+      → StoresAll d.imei rs a.ring b.ring x y → DoesOne address d n (Line.Fix who fix) a b x y
+  does_fix address rs b x y own same watching st = record {
     log = st.log;
     does = subst (λ (t : Bool). WhereOwn t (Acquires d fix a st.log b) (IsQuiet a st.log b)) (sym own) (record { stores = subst (λ (l : List Record). Stores l a.ring st.log b.ring) same st.stores; watching = watching });
     printed = st.printed;
     steady = st.steady;
     wires = let none = stores_no_links rs a.ring b.ring st.log st.stores in
-        subst (λ given. Passes given (back_in st.log) x.wires y.wires) (sym none.0) (subst (λ back. Passes [] back x.wires y.wires) (sym none.1) (no_wires x y st.others));
+        subst (λ given. PassesNamed address given (back_in st.log) x.wires y.wires) (sym none.0) (subst (λ back. PassesNamed address [] back x.wires y.wires) (sym none.1) (no_wires address x y st.others));
     stays = st.stays;
     others = sinks_only x y st.others;
   }
 
-  pub does_other : (x : HostView) → a.ring.down ≡ false → (who == d.imei) ≡ false → DoesOne d n (Line.Fix who fix) a a x x
-  does_other x up other = does_quiet d n (Line.Fix who fix) a x up (subst (λ (t : Bool). WhereOwn t (Acquires d fix a [] a) (IsQuiet a [] a)) (sym other) (refl, refl))
+  pub does_other : (address : List ℕ) (x : HostView) → a.ring.down ≡ false → (who == d.imei) ≡ false → DoesOne address d n (Line.Fix who fix) a a x x
+  does_other address x up other = does_quiet address d n (Line.Fix who fix) a x up (subst (λ (t : Bool). WhereOwn t (Acquires d fix a [] a) (IsQuiet a [] a)) (sym other) (refl, refl))
 
-  pub fix_halts : (s : Stop) (imei slots : ℕ) (rs : List Record) (x y : HostView) (old new : MediumState) → (who == d.imei) ≡ true → rs ≡ (decided d.settings a.watching fix).records
-      → Halts (BeginsStores rs a.ring) s imei slots x y old new → Halts (BeginsLine d n (Line.Fix who fix) a) s imei slots x y old new
-  fix_halts s imei slots rs x y old new own same h =
-      halts_map (BeginsStores rs a.ring) (BeginsLine d n (Line.Fix who fix) a) s imei slots x y old new
+  pub fix_halts : (address : List ℕ) (s : Stop) (imei slots : ℕ) (rs : List Record) (x y : HostView) (old new : MediumState) → (who == d.imei) ≡ true → rs ≡ (decided d.settings a.watching fix).records
+      → Halts address (BeginsStores rs a.ring) s imei slots x y old new → Halts address (BeginsLine d n (Line.Fix who fix) a) s imei slots x y old new
+  fix_halts address s imei slots rs x y old new own same h =
+      halts_map address (BeginsStores rs a.ring) (BeginsLine d n (Line.Fix who fix) a) s imei slots x y old new
       (λ log now st. subst (λ (t : Bool). WhereOwn t (BeginsStores (decided d.settings a.watching fix).records a.ring log now) (StaysAt a log now)) (sym own) (subst (λ (l : List Record). BeginsStores l a.ring log now) same st)) h
 
 -- ---- power
@@ -171,14 +171,14 @@ powers_line : (own : Bool) (a b : Stage) → MayPowerUp own a b → WhereOwn own
 powers_line true a b p = (refl, p)
 powers_line false a b p = (refl, p)
 
-pub does_power : (d : Driver) (n who : ℕ) (line : ScriptLine) (a b : Stage) (x : HostView) → line ≡ Line.Power (Who.Device who) → MayPowerUp (d.imei == who) a b → StaysUp a.ring b.ring → DoesOne d n line a b x x
-does_power d n who line a b x same p stays = subst (λ (l : ScriptLine). DoesOne d n l a b x x) (sym same)
-    (record { log = []; does = powers_line (d.imei == who) a b p; printed = prints_none d.imei x; steady = refl; wires = passes_none x.wires; stays = stays; others = refl })
+pub does_power : (address : List ℕ) (d : Driver) (n who : ℕ) (line : ScriptLine) (a b : Stage) (x : HostView) → line ≡ Line.Power (Who.Device who) → MayPowerUp (d.imei == who) a b → StaysUp a.ring b.ring → DoesOne address d n line a b x x
+does_power address d n who line a b x same p stays = subst (λ (l : ScriptLine). DoesOne address d n l a b x x) (sym same)
+    (record { log = []; does = powers_line (d.imei == who) a b p; printed = prints_none d.imei x; steady = refl; wires = named_none address x.wires; stays = stays; others = refl })
 
-pub power_halts : (s : Stop) (d : Driver) (n imei slots who : ℕ) (line : ScriptLine) (a : Stage) (x : HostView) (new : MediumState) → line ≡ Line.Power (Who.Device who) → RefusesFlash s slots a.ring.medium new
-    → Halts (BeginsLine d n line a) s imei slots x x a.ring.medium new
-power_halts s d n imei slots who line a x new same r = subst (λ (l : ScriptLine). Halts (BeginsLine d n l a) s imei slots x x a.ring.medium new) (sym same)
-    (halts_quiet (BeginsLine d n (Line.Power (Who.Device who)) a) s imei slots x a.ring.medium new a.ring (refl, refl) r)
+pub power_halts : (address : List ℕ) (s : Stop) (d : Driver) (n imei slots who : ℕ) (line : ScriptLine) (a : Stage) (x : HostView) (new : MediumState) → line ≡ Line.Power (Who.Device who) → RefusesFlash s slots a.ring.medium new
+    → Halts address (BeginsLine d n line a) s imei slots x x a.ring.medium new
+power_halts address s d n imei slots who line a x new same r = subst (λ (l : ScriptLine). Halts address (BeginsLine d n l a) s imei slots x x a.ring.medium new) (sym same)
+    (halts_quiet address (BeginsLine d n (Line.Power (Who.Device who)) a) s imei slots x a.ring.medium new a.ring (refl, refl) r)
 
 -- ---- the lines one after the other, as the code comes by them
 driver_same : (v w : TrackerView) (p q : Acquiring) → IsSameDevice v w → q.settings ≡ p.settings → driver w q ≡ driver v p
@@ -196,22 +196,22 @@ module _ (v w : TrackerView) (p q : Acquiring) (same : IsSameDevice v w) (settin
       (fit i number fix (here ∙ ap (λ (l : ScriptLine). Some (number, l)) (is ∙ ap (λ (n : ℕ). Line.Fix n fix) same.imei)))
 
   -- one line more was done
-  pub plays_more : (a b c : Stage) (x y z : HostView) → DoesAll (driver v p) (take i script) a b x y → DoesOne (driver w q) number line b c y z → DoesAll (driver v p) (take (i + 1) script) a c x z
-  plays_more a b c x y z done one =
+  pub plays_more : (address : List ℕ) (a b c : Stage) (x y z : HostView) → DoesAll address (driver v p) (take i script) a b x y → DoesOne address (driver w q) number line b c y z → DoesAll address (driver v p) (take (i + 1) script) a c x z
+  plays_more address a b c x y z done one =
       let e : i + 1 ≡ suc i = omega arith in
-      subst (λ (s : Script). DoesAll (driver v p) s a c x z) (sym (ap (λ (k : ℕ). take k script) e ∙ take_more script i (number, line) here))
-      (does_more (driver v p) (take i script) (number, line) a b c x y z done (subst (λ (d : Driver). DoesOne d number line b c y z) (driver_same v w p q same settings) one))
+      subst (λ (s : Script). DoesAll address (driver v p) s a c x z) (sym (ap (λ (k : ℕ). take k script) e ∙ take_more script i (number, line) here))
+      (does_more address (driver v p) (take i script) (number, line) a b c x y z done (subst (λ (d : Driver). DoesOne address d number line b c y z) (driver_same v w p q same settings) one))
 
   -- it was broken off
-  pub plays_halt : (s : Stop) (a b : Stage) (x y z : HostView) (after : MediumState) → DoesAll (driver v p) (take i script) a b x y → Halts (BeginsLine (driver w q) number line b) s w.imei (length b.ring.slots) y z b.ring.medium after
-      → Halts (Begins (driver v p) script a) s v.imei (length a.ring.slots) x z a.ring.medium after
-  plays_halt s a b x y z after done h =
-      halts_after (BeginsLine (driver v p) number line b) (Begins (driver v p) script a) s v.imei (length a.ring.slots) x y z a.ring.medium b.ring.medium after done.log
+  pub plays_halt : (address : List ℕ) (s : Stop) (a b : Stage) (x y z : HostView) (after : MediumState) → DoesAll address (driver v p) (take i script) a b x y → Halts address (BeginsLine (driver w q) number line b) s w.imei (length b.ring.slots) y z b.ring.medium after
+      → Halts address (Begins (driver v p) script a) s v.imei (length a.ring.slots) x z a.ring.medium after
+  plays_halt address s a b x y z after done h =
+      halts_after address (BeginsLine (driver v p) number line b) (Begins (driver v p) script a) s v.imei (length a.ring.slots) x y z a.ring.medium b.ring.medium after done.log
       (λ more now begins. record { done = take i script; line = (number, line); rest = drop (suc i) script; parts = parted script i (number, line) here; b = b; before = done.log; more = more; runs = done.runs; begins = begins; joined = refl })
       done.printed done.steady (given_in done.log) (back_in done.log) (same_links done.log) done.wires done.others done.stays.run
-      (subst (λ (n : ℕ). Halts (BeginsLine (driver v p) number line b) s v.imei n y z b.ring.medium after) done.stays.size
-      (subst (λ (n : ℕ). Halts (BeginsLine (driver v p) number line b) s n (length b.ring.slots) y z b.ring.medium after) same.imei
-      (subst (λ (d : Driver). Halts (BeginsLine d number line b) s w.imei (length b.ring.slots) y z b.ring.medium after) (driver_same v w p q same settings) h)))
+      (subst (λ (n : ℕ). Halts address (BeginsLine (driver v p) number line b) s v.imei n y z b.ring.medium after) done.stays.size
+      (subst (λ (n : ℕ). Halts address (BeginsLine (driver v p) number line b) s n (length b.ring.slots) y z b.ring.medium after) same.imei
+      (subst (λ (d : Driver). Halts address (BeginsLine d number line b) s w.imei (length b.ring.slots) y z b.ring.medium after) (driver_same v w p q same settings) h)))
 
 -- ---- what follows from a fact of an Ok
 pub ok_map : {T E A M : Type 0} (r : Result T E) → (A → M) → OnOk r A → OnOk r M

@@ -16,8 +16,8 @@ use Rattle.fmb_drive.specs.Drive.{CameTo, Drove, FlashRefusal, IsCutOff, IsDrive
 use Rattle.fmb_drive.specs.Runs.{Driver, Runs}
 use Rattle.fmb_drive.specs.Scripts.{IsDevice}
 use Rattle.fmb_drive.specs.Steps.{DrovePlain}
-use Rattle.fmb_host.proofs.Stocks.{passes_none, passes_one}
-use Rattle.fmb_host.specs.Stocks.{Passes, Regains, Stock}
+use Rattle.fmb_host.proofs.Stocks.{named_along, named_none, named_one}
+use Rattle.fmb_host.specs.Stocks.{PassesNamed, Regains, Stock}
 use Rattle.journey_script.specs.Drive.{drive_fault_in}
 use Rattle.fmb_drive.specs.Ending.{Drives, EndsEarly, EndsWell, StopsOn}
 use Rattle.fmb_drive.specs.Halts.{Halts, stop_line, stop_status}
@@ -125,7 +125,7 @@ counted_more count faults rose = by (faults == 0) refl
     by false e = refl
 
 -- ---- from the flash that was handed out to the last line
-module _ (script : Script) (x y z w v : HostView) (given home : MediumState) (out : HandsOutMedium x given y) (back : TakesBackMedium z home w) (last : v ≡ record w { sink = v.sink }) where
+module _ (address flash : List ℕ) (script : Script) (x y z w v : HostView) (given home : MediumState) (out : HandsOutMedium x flash given y) (back : TakesBackMedium z home w) (last : v ≡ record w { sink = v.sink }) where
   x_sink : y.sink ≡ x.sink
   x_sink = ap (λ (h : HostView). h.sink) out.others
 
@@ -155,13 +155,13 @@ module _ (script : Script) (x y z w v : HostView) (given home : MediumState) (ou
           ∙ ap (λ g. let h : HostView = record v { kept = x.kept; texts = x.texts; gates = g } in h) gates
           ∙ ap (λ b. let h : HostView = record v { kept = x.kept; texts = x.texts; gates = x.gates; benches = b } in h) benches
 
-  media_are : z.media ≡ y.media → Passes (given ∷ []) (home ∷ []) x.media v.media
-  media_are same = subst (λ s. Passes (given ∷ []) (home ∷ []) x.media s) (sym (ap (λ (h : HostView). h.media) last))
-      (passes_one given home x.media y.media w.media out.media (subst (λ s. Regains s home w.media) same back.media))
+  media_are : z.media ≡ y.media → PassesNamed flash (given ∷ []) (home ∷ []) x.media v.media
+  media_are same = subst (λ s. PassesNamed flash (given ∷ []) (home ∷ []) x.media s) (sym (ap (λ (h : HostView). h.media) last))
+      (named_one flash given home x.media y.media w.media out.media (subst (λ s. Regains s home w.media) same back.media))
 
-  wires_are : (links ends : List LinkState) → Passes links ends y.wires z.wires → Passes links ends x.wires v.wires
-  wires_are links ends p = subst (λ s. Passes links ends s v.wires) (ap (λ (h : HostView). h.wires) out.others)
-      (subst (λ s. Passes links ends y.wires s) (sym (ap (λ (h : HostView). h.wires) last ∙ ap (λ (h : HostView). h.wires) back.others)) p)
+  wires_are : (links ends : List LinkState) → PassesNamed address links ends y.wires z.wires → PassesNamed address links ends x.wires v.wires
+  wires_are links ends p = subst (λ s. PassesNamed address links ends s v.wires) (ap (λ (h : HostView). h.wires) out.others)
+      (subst (λ s. PassesNamed address links ends y.wires s) (sym (ap (λ (h : HostView). h.wires) last ∙ ap (λ (h : HostView). h.wires) back.others)) p)
 
   -- the device that was driven
   module _ (imei slots : ℕ) (order : Order) (settings : AcquisitionSettings) (dev : IsDevice imei slots order settings script) where
@@ -172,7 +172,7 @@ module _ (script : Script) (x y z w v : HostView) (given home : MediumState) (ou
     driver_is = cc (dev.imei, dev.order, dev.settings)
 
     -- what was begun, in the device's own words
-    played : (P : Device → List Event → List MediumState → List MediumState → Type 0) (log : List Event) → z.media ≡ y.media → CameTo by_words slots script (given ∷ []) log → P dev.d log (given ∷ []) (home ∷ []) → OfPlayed script x v P
+    played : (P : Device → List Event → List MediumState → List MediumState → Type 0) (log : List Event) → z.media ≡ y.media → CameTo by_words slots script (given ∷ []) log → P dev.d log (given ∷ []) (home ∷ []) → OfPlayed flash script x v P
     played P log same came holds = record {
       d = dev.d;
       is = dev.is;
@@ -193,7 +193,7 @@ module _ (script : Script) (x y z w v : HostView) (given home : MediumState) (ou
     }
 
     -- a drive that ended early
-    pub drives_early : (s : Stop) (status : ℕ) → given.faults ≡ 0 → StopsOn s by_words slots script given home y z → EndsEarly s status w v → Drives script status x v
+    pub drives_early : (s : Stop) (status : ℕ) → given.faults ≡ 0 → StopsOn address s by_words slots script given home y z → EndsEarly s status w v → Drives address flash script status x v
     drives_early s status fresh stops ends = record {
       among = among_of s status ends.among;
       done = λ e. absurd (never_done s status ends.among e);
@@ -221,7 +221,7 @@ module _ (script : Script) (x y z w v : HostView) (given home : MediumState) (ou
       others = only h.others;
     }
       where
-        h : Halts (λ log now. CameTo by_words slots script (given ∷ []) log) s imei slots y z given home
+        h : Halts address (λ log now. CameTo by_words slots script (given ∷ []) log) s imei slots y z given home
         h = stops.halts
 
         same_media : z.media ≡ y.media
@@ -246,7 +246,7 @@ module _ (script : Script) (x y z w v : HostView) (given home : MediumState) (ou
             counts_back ∙ ap (λ (n : ℕ). let k : Counts = record z.counts { media = n } in k) (counted_more z.counts.media home.faults rose) ∙ ap (λ (k : Counts). let c : Counts = record k { media = k.media + 1 } in c) same
 
     -- a drive that was done
-    pub drives_well : (status count : ℕ) → drive_fault_in script ≡ None → DrovePlain by_words slots script given home count y z → EndsWell count status w v → Drives script status x v
+    pub drives_well : (status count : ℕ) → drive_fault_in script ≡ None → DrovePlain address by_words slots script given home count y z → EndsWell count status w v → Drives address flash script status x v
     drives_well status count no_fault p ends = record {
       among = elim ends.among [ inl e ↦ inl e | inr a ↦ elim a [ inl e ↦ inr (inl e) | inr e ↦ inr (inr (inr (inr (inr e)))) ] ];
       done = λ e. driven (ends.printed e);
@@ -303,7 +303,7 @@ module _ (script : Script) (x y z w v : HostView) (given home : MediumState) (ou
           records = λ told. (balanced dev.d script (start p.opening) p.does.log p.closing refl (p.first.told told) (drivable_has_none script no_fault) runs).records;
         }
 
-        driven : PrintsWhole (flash_line count) w v → IsDriven script x v
+        driven : PrintsWhole (flash_line count) w v → IsDriven address flash script x v
         driven printed = record {
           d = dev.d;
           is = dev.is;
@@ -317,9 +317,9 @@ module _ (script : Script) (x y z w v : HostView) (given home : MediumState) (ou
         }
 
 -- the flash could not be opened, and the line was printed
-pub drives_none : (script : Script) (imei slots : ℕ) (order : Order) (settings : AcquisitionSettings) (x y v : HostView) → IsDevice imei slots order settings script → y ≡ with_host_fault x → Prints (codes "host fault\n") y v
-    → v ≡ record y { sink = v.sink } → Drives script 7 x v
-drives_none script imei slots order settings x y v dev faulted line last = record {
+pub drives_none : (address flash : List ℕ) (script : Script) (imei slots : ℕ) (order : Order) (settings : AcquisitionSettings) (x y v : HostView) → IsDevice imei slots order settings script → y ≡ with_host_fault x → Prints (codes "host fault\n") y v
+    → v ≡ record y { sink = v.sink } → Drives address flash script 7 x v
+drives_none address flash script imei slots order settings x y v dev faulted line last = record {
   among = inr (inr (inr (inl refl)));
   done = λ e. absurd (omega (arith, e));
   sink_steady = λ e. absurd (omega (arith, e));
@@ -334,14 +334,14 @@ drives_none script imei slots order settings x y v dev faulted line last = recor
     home = [];
     log = [];
     came = unopened;
-    media = none x.media v.media media;
+    media = none flash x.media v.media media;
     holds = record { mid = y.sink; whole = subst (λ (s : SinkState). writes.PrintsWhole [] x.sink s) (sym sinks) (Appends-nil x.sink.written); steady = ap (λ (s : SinkState). s.faults) sinks; last = line };
   };
   host_cause = λ e. ap (λ (h : HostView). h.counts.host) last ∙ ap (λ (h : HostView). h.counts.host) faulted;
   refused_flash = λ e. absurd (omega (arith, e));
   no_memory = λ e. absurd (omega (arith, e));
-  media_back = record { given = []; back = []; same_count = refl; passes = none x.media v.media media };
-  wires_back = record { given = []; back = []; same_count = refl; passes = none x.wires v.wires (ap (λ (h : HostView). h.wires) last ∙ ap (λ (h : HostView). h.wires) faulted) };
+  media_back = record { given = []; back = []; same_count = refl; passes = none flash x.media v.media media };
+  wires_back = record { given = []; back = []; same_count = refl; passes = none address x.wires v.wires (ap (λ (h : HostView). h.wires) last ∙ ap (λ (h : HostView). h.wires) faulted) };
   texts_before = ap (λ (h : HostView). h.counts.texts) last ∙ ap (λ (h : HostView). h.counts.texts) faulted;
   host_before = λ other. absurd (other refl);
   doors_before = ap (λ (h : HostView). h.counts.doors) last ∙ ap (λ (h : HostView). h.counts.doors) faulted;
@@ -354,16 +354,16 @@ drives_none script imei slots order settings x y v dev faulted line last = recor
     media : v.media ≡ x.media
     media = ap (λ (h : HostView). h.media) last ∙ ap (λ (h : HostView). h.media) faulted
 
-    none : {T : Type 0} (a b : Stock T) → b ≡ a → Passes [] [] a b
-    none a b same = subst (λ s. Passes [] [] a s) (sym same) (passes_none a)
+    none : {T : Type 0} (name : List ℕ) (a b : Stock T) → b ≡ a → PassesNamed name [] [] a b
+    none name a b same = named_along name [] [] a a b (named_none name a) same
 
 -- it ended one way or the other
-pub drives_ended : (script : Script) (x y z w v : HostView) (given home : MediumState) (status imei slots : ℕ) (order : Order) (settings : AcquisitionSettings) (ended : Result ℕ Stop) → HandsOutMedium x given y → TakesBackMedium z home w
+pub drives_ended : (address flash : List ℕ) (script : Script) (x y z w v : HostView) (given home : MediumState) (status imei slots : ℕ) (order : Order) (settings : AcquisitionSettings) (ended : Result ℕ Stop) → HandsOutMedium x flash given y → TakesBackMedium z home w
     → IsDevice imei slots order settings script → drive_fault_in script ≡ None → given.faults ≡ 0
-    → IfOk ended (λ count. DrovePlain (let d : Driver = record { imei = imei; order = order; settings = settings } in d) slots script given home count y z)
-    → IfErr ended (λ s. StopsOn s (let d : Driver = record { imei = imei; order = order; settings = settings } in d) slots script given home y z)
-    → IfOk ended (λ count. EndsWell count status w v) → IfErr ended (λ s. EndsEarly s status w v) → Drives script status x v
-drives_ended script x y z w v given home status imei slots order settings (Ok count) out back dev no_fault fresh plain stops well early =
-    drives_well script x y z w v given home out back well.others imei slots order settings dev status count no_fault plain well
-drives_ended script x y z w v given home status imei slots order settings (Err s) out back dev no_fault fresh plain stops well early =
-    drives_early script x y z w v given home out back early.others imei slots order settings dev s status fresh stops early
+    → IfOk ended (λ count. DrovePlain address (let d : Driver = record { imei = imei; order = order; settings = settings } in d) slots script given home count y z)
+    → IfErr ended (λ s. StopsOn address s (let d : Driver = record { imei = imei; order = order; settings = settings } in d) slots script given home y z)
+    → IfOk ended (λ count. EndsWell count status w v) → IfErr ended (λ s. EndsEarly s status w v) → Drives address flash script status x v
+drives_ended address flash script x y z w v given home status imei slots order settings (Ok count) out back dev no_fault fresh plain stops well early =
+    drives_well address flash script x y z w v given home out back well.others imei slots order settings dev status count no_fault plain well
+drives_ended address flash script x y z w v given home status imei slots order settings (Err s) out back dev no_fault fresh plain stops well early =
+    drives_early address flash script x y z w v given home out back early.others imei slots order settings dev s status fresh stops early

@@ -5,9 +5,9 @@ use Rattle.std.proofs.Math.Seq.{take-append-add}
 use Rattle.std.proofs.lemmas.Grind.{flat_map-append}
 use Rattle.std.specs.Io.KnownBytes.{Appends}
 use Rattle.avl_values.specs.Causes.{Rose}
-use Rattle.fmb_host.proofs.Stocks.{passes_none, passes_then}
+use Rattle.fmb_host.proofs.Stocks.{named_none, named_then}
 use Rattle.fmb_host.specs.Host.{HostView, with_host_fault}
-use Rattle.fmb_host.specs.Stocks.{Passes}
+use Rattle.fmb_host.specs.Stocks.{PassesNamed}
 use Rattle.fmb_host.specs.declared.host.Counts.{Counts}
 use Rattle.fmb_io.specs.Printed.{PrintsFront, PrintsWhole, SinkFailed, SinkSteady}
 use Rattle.fmb_drive.proofs.Progress.{prints_none, prints_then}
@@ -21,8 +21,8 @@ use Rattle.links.specs.Links.{LinkState}
 use Rattle.medium_model.specs.State.{IsRun, MediumState}
 
 -- the same stop, in other words of what had happened
-pub halts_map : (P Q : List Event → RingView → Type 0) (s : Stop) (imei slots : ℕ) (x y : HostView) (old new : MediumState) → ((log : List Event) (now : RingView) → P log now → Q log now) → Halts P s imei slots x y old new → Halts Q s imei slots x y old new
-halts_map P Q s imei slots x y old new says h = record {
+pub halts_map : (address : List ℕ) (P Q : List Event → RingView → Type 0) (s : Stop) (imei slots : ℕ) (x y : HostView) (old new : MediumState) → ((log : List Event) (now : RingView) → P log now → Q log now) → Halts address P s imei slots x y old new → Halts address Q s imei slots x y old new
+halts_map address P Q s imei slots x y old new says h = record {
   log = h.log;
   now = h.now;
   holds = says h.log h.now h.holds;
@@ -44,8 +44,8 @@ halts_map P Q s imei slots x y old new says h = record {
 }
 
 -- the host is as it was
-pub halts_quiet : (P : List Event → RingView → Type 0) (s : Stop) (imei slots : ℕ) (x : HostView) (old new : MediumState) (now : RingView) → P [] now → RefusesFlash s slots old new → Halts P s imei slots x x old new
-halts_quiet P s imei slots x old new now holds r = record {
+pub halts_quiet : (address : List ℕ) (P : List Event → RingView → Type 0) (s : Stop) (imei slots : ℕ) (x : HostView) (old new : MediumState) (now : RingView) → P [] now → RefusesFlash s slots old new → Halts address P s imei slots x x old new
+halts_quiet address P s imei slots x old new now holds r = record {
   log = [];
   now = now;
   holds = holds;
@@ -55,7 +55,7 @@ halts_quiet P s imei slots x old new now holds r = record {
   links = [];
   ends = [];
   same_count = refl;
-  wires = passes_none x.wires;
+  wires = named_none address x.wires;
   sink_fault = λ e. absurd (r.no_sink_fault e);
   medium_fault = r.medium_fault;
   host_fault = λ e. absurd (r.no_host_fault e);
@@ -67,8 +67,8 @@ halts_quiet P s imei slots x old new now holds r = record {
 }
 
 -- the sequences were at their end, and nothing was done
-pub halts_spent : (P : List Event → RingView → Type 0) (imei slots : ℕ) (x : HostView) (m : MediumState) (now : RingView) → P [] now → now.next ≡ 2 ^ 63 → Halts P stop.Sequence imei slots x x m m
-halts_spent P imei slots x m now holds next = record {
+pub halts_spent : (address : List ℕ) (P : List Event → RingView → Type 0) (imei slots : ℕ) (x : HostView) (m : MediumState) (now : RingView) → P [] now → now.next ≡ 2 ^ 63 → Halts address P stop.Sequence imei slots x x m m
+halts_spent address P imei slots x m now holds next = record {
   log = [];
   now = now;
   holds = holds;
@@ -78,7 +78,7 @@ halts_spent P imei slots x m now holds next = record {
   links = [];
   ends = [];
   same_count = refl;
-  wires = passes_none x.wires;
+  wires = named_none address x.wires;
   sink_fault = λ e. absurd (cc);
   medium_fault = λ e. absurd (cc);
   host_fault = λ e. absurd (cc);
@@ -114,8 +114,8 @@ flash_failed slots old new failed f run = record {
 }
 
 -- the sink failed on the line of an event
-pub halts_at_sink : (P : List Event → RingView → Type 0) (imei slots : ℕ) (e : Event) (x y : HostView) (m : MediumState) (now : RingView) → P (e ∷ []) now → PrintsFront (event_line imei e) x y → SinkFailed x y → y ≡ record x { sink = y.sink } → Halts P stop.SinkFault imei slots x y m m
-halts_at_sink P imei slots e x y m now holds front failed others = record {
+pub halts_at_sink : (address : List ℕ) (P : List Event → RingView → Type 0) (imei slots : ℕ) (e : Event) (x y : HostView) (m : MediumState) (now : RingView) → P (e ∷ []) now → PrintsFront (event_line imei e) x y → SinkFailed x y → y ≡ record x { sink = y.sink } → Halts address P stop.SinkFault imei slots x y m m
+halts_at_sink address P imei slots e x y m now holds front failed others = record {
   log = e ∷ [];
   now = now;
   holds = holds;
@@ -125,7 +125,7 @@ halts_at_sink P imei slots e x y m now holds front failed others = record {
   links = [];
   ends = [];
   same_count = refl;
-  wires = subst (λ w. Passes [] [] x.wires w) (sym (ap (λ (h : HostView). h.wires) others)) (passes_none x.wires);
+  wires = subst (λ w. PassesNamed address [] [] x.wires w) (sym (ap (λ (h : HostView). h.wires) others)) (named_none address x.wires);
   sink_fault = λ _. failed;
   medium_fault = λ e. absurd (cc);
   host_fault = λ e. absurd (cc);
@@ -138,8 +138,8 @@ halts_at_sink P imei slots e x y m now holds front failed others = record {
 }
 
 -- the host failed to dial
-pub halts_at_dial : (P : List Event → RingView → Type 0) (imei slots : ℕ) (x y : HostView) (m : MediumState) (now : RingView) → P [] now → y ≡ with_host_fault x → Halts P stop.HostFault imei slots x y m m
-halts_at_dial P imei slots x y m now holds is = subst (λ (h : HostView). Halts P stop.HostFault imei slots x h m m) (sym is) (record {
+pub halts_at_dial : (address : List ℕ) (P : List Event → RingView → Type 0) (imei slots : ℕ) (x y : HostView) (m : MediumState) (now : RingView) → P [] now → y ≡ with_host_fault x → Halts address P stop.HostFault imei slots x y m m
+halts_at_dial address P imei slots x y m now holds is = subst (λ (h : HostView). Halts address P stop.HostFault imei slots x h m m) (sym is) (record {
   log = [];
   now = now;
   holds = holds;
@@ -149,7 +149,7 @@ halts_at_dial P imei slots x y m now holds is = subst (λ (h : HostView). Halts 
   links = [];
   ends = [];
   same_count = refl;
-  wires = passes_none x.wires;
+  wires = named_none address x.wires;
   sink_fault = λ e. absurd (cc);
   medium_fault = λ e. absurd (cc);
   host_fault = λ _. refl;
@@ -171,9 +171,9 @@ front_then imei log more_log x y z first (n, next) =
     )
 
 -- some was done before, and then the drive came to its early end
-module _ (P Q : List Event → RingView → Type 0) (s : Stop) (imei slots : ℕ) (x y z : HostView) (p q r : MediumState) where
+module _ (address : List ℕ) (P Q : List Event → RingView → Type 0) (s : Stop) (imei slots : ℕ) (x y z : HostView) (p q r : MediumState) where
   pub halts_after : (log : List Event) → ((more : List Event) (now : RingView) → P more now → Q (log ++ more) now) → PrintsWhole (drive_text imei log) x y → SinkSteady x y → (links ends : List LinkState) → length ends ≡ length links
-      → Passes links ends x.wires y.wires → y ≡ record x { sink = y.sink; wires = y.wires } → IsRun p q ⊥ → Halts P s imei slots y z q r → Halts Q s imei slots x z p r
+      → PassesNamed address links ends x.wires y.wires → y ≡ record x { sink = y.sink; wires = y.wires } → IsRun p q ⊥ → Halts address P s imei slots y z q r → Halts address Q s imei slots x z p r
   halts_after log says printed steady links ends same wires others run h = record {
     log = log ++ h.log;
     now = h.now;
@@ -184,7 +184,7 @@ module _ (P Q : List Event → RingView → Type 0) (s : Stop) (imei slots : ℕ
     links = links ++ h.links;
     ends = ends ++ h.ends;
     same_count = omega (arith, length-append ends h.ends, length-append links h.links, same, h.same_count);
-    wires = passes_then links h.links ends h.ends x.wires y.wires z.wires wires h.wires;
+    wires = named_then address links h.links ends h.ends x.wires y.wires z.wires wires h.wires;
     sink_fault = λ e. subst (λ (n : ℕ). Rose n z.sink.faults) steady (h.sink_fault e);
     medium_fault = λ e. let f = h.medium_fault e in ((let rose = f.0 in omega (arith, run.later)), λ u. f.1 (run.left u));
     host_fault = λ e. h.host_fault e ∙ ap (λ (k : Counts). record k { host = k.host + 1 }) counts;

@@ -17,9 +17,9 @@ use Rattle.fmb_drive.specs.Runs.{BeginsStores, MayGiveUp, Stores, gives_up, lost
 use Rattle.fmb_drive.specs.Steps.{Gives, StaysUp, StoresAll}
 use Rattle.fmb_drive.specs.declared.stop.Stop.{Stop}
 use Rattle.fmb_drive.specs.declared.stop.Stop.TheVariants as stop
-use Rattle.fmb_host.proofs.Stocks.{passes_none}
+use Rattle.fmb_host.proofs.Stocks.{named_none}
 use Rattle.fmb_host.specs.Host.{HostView}
-use Rattle.fmb_host.specs.Stocks.{Passes}
+use Rattle.fmb_host.specs.Stocks.{PassesNamed}
 use Rattle.fmb_io.specs.Printed.{PrintsFront, PrintsWhole, SinkFailed, SinkSteady}
 use Rattle.medium_model.proofs.Images.{run-counted}
 use Rattle.medium_model.specs.State.{MediumState}
@@ -43,8 +43,8 @@ prints_room imei v x y e same = subst (λ (log : List Event). PrintsWhole (drive
 pub sinks_only : (x y : HostView) → y ≡ record x { sink = y.sink } → y ≡ record x { sink = y.sink; wires = y.wires }
 sinks_only x y e = e ∙ ap (λ (h : HostView). record x { sink = y.sink; wires = h.wires }) (sym e)
 
-pub no_wires : (x y : HostView) → y ≡ record x { sink = y.sink } → Passes [] [] x.wires y.wires
-no_wires x y e = subst (λ s. Passes [] [] x.wires s) (sym (ap (λ (h : HostView). h.wires) e)) (passes_none x.wires)
+pub no_wires : (address : List ℕ) (x y : HostView) → y ≡ record x { sink = y.sink } → PassesNamed address [] [] x.wires y.wires
+no_wires address x y e = subst (λ s. PassesNamed address [] [] x.wires s) (sym (ap (λ (h : HostView). h.wires) e)) (named_none address x.wires)
 
 pub keep_stays : (r : Record) (a b : RingView) → Keeps r false a b → StaysUp a b
 keep_stays r a b k = record { up = k.down; size = k.size; run = run_passed (run-counted k.counted) }
@@ -54,33 +54,33 @@ pub gives_nothing : (v : RingView) → Gives v [] v
 gives_nothing v = (inl refl, refl)
 
 -- the sink failed on the line of the record that was to be given up
-pub lost_cut : (imei named slots : ℕ) (v w : RingView) (r : Record) (rs : List Record) (text said : List ℕ) (x y : HostView) → w ≡ v → imei ≡ named → is_full w.slots ≡ true → held_of w.slots ≡ r ∷ rs
-    → said ≡ text → text ≡ lost_line named r → PrintsFront said x y → SinkFailed x y → y ≡ record x { sink = y.sink } → Halts (Gives v) stop.SinkFault imei slots x y v.medium v.medium
-lost_cut imei named slots v w r rs text said x y same own full held is made front failed others =
+pub lost_cut : (address : List ℕ) (imei named slots : ℕ) (v w : RingView) (r : Record) (rs : List Record) (text said : List ℕ) (x y : HostView) → w ≡ v → imei ≡ named → is_full w.slots ≡ true → held_of w.slots ≡ r ∷ rs
+    → said ≡ text → text ≡ lost_line named r → PrintsFront said x y → SinkFailed x y → y ≡ record x { sink = y.sink } → Halts address (Gives v) stop.SinkFault imei slots x y v.medium v.medium
+lost_cut address imei named slots v w r rs text said x y same own full held is made front failed others =
     let one : gives_up v ≡ lost r ∷ [] = gives_one v r rs (subst (λ (u : RingView). is_full u.slots ≡ true) same full) (subst (λ (u : RingView). held_of u.slots ≡ r ∷ rs) same held) in
     let line : said ≡ lost_line imei r = is ∙ made ∙ ap (λ (n : ℕ). lost_line n r) (sym own) in
-    halts_at_sink (Gives v) imei slots (lost r) x y v.medium v (inr (sym one), refl) (subst (λ (t : List ℕ). PrintsFront t x y) line front) failed others
+    halts_at_sink address (Gives v) imei slots (lost r) x y v.medium v (inr (sym one), refl) (subst (λ (t : List ℕ). PrintsFront t x y) line front) failed others
 
 -- what a failed call leaves of the ring
 pub failed_ring : (r : Record) (result : Result Kept KeepFault) (a b : RingView) → result ≡ Err fault.MediumFault → LeavesRing r result a b → Keeps r true a b
 failed_ring r result a b is leaves = subst (λ (e : Result Kept KeepFault). LeavesRing r e a b) is leaves
 
 -- the flash failed after the line was printed
-pub keep_failed : (imei slots : ℕ) (x y : HostView) (a b : RingView) (r : Record) → PrintsWhole (drive_text imei (gives_up a)) x y → SinkSteady x y → y ≡ record x { sink = y.sink } → Keeps r true a b
-    → Halts (Gives a) stop.MediumFault imei slots x y a.medium b.medium
-keep_failed imei slots x y a b r printed steady others k =
-    halts_after (λ more now. (more ≡ []) × (now ≡ a)) (Gives a) stop.MediumFault imei slots x y y a.medium a.medium b.medium (gives_up a)
+pub keep_failed : (address : List ℕ) (imei slots : ℕ) (x y : HostView) (a b : RingView) (r : Record) → PrintsWhole (drive_text imei (gives_up a)) x y → SinkSteady x y → y ≡ record x { sink = y.sink } → Keeps r true a b
+    → Halts address (Gives a) stop.MediumFault imei slots x y a.medium b.medium
+keep_failed address imei slots x y a b r printed steady others k =
+    halts_after address (λ more now. (more ≡ []) × (now ≡ a)) (Gives a) stop.MediumFault imei slots x y y a.medium a.medium b.medium (gives_up a)
     (λ more now p. (inr (ap (λ (l : List Event). gives_up a ++ l) p.0 ∙ append-nil (gives_up a)), p.1))
-    printed steady [] [] refl (no_wires x y others) (sinks_only x y others) (run_none a.medium)
-    (halts_quiet (λ more now. (more ≡ []) × (now ≡ a)) stop.MediumFault imei slots y a.medium b.medium a (refl, refl) (flash_failed slots a.medium b.medium (true ≡ true) refl (run-counted k.counted)))
+    printed steady [] [] refl (no_wires address x y others) (sinks_only x y others) (run_none a.medium)
+    (halts_quiet address (λ more now. (more ≡ []) × (now ≡ a)) stop.MediumFault imei slots y a.medium b.medium a (refl, refl) (flash_failed slots a.medium b.medium (true ≡ true) refl (run-counted k.counted)))
 
 -- some records were kept before it stopped
-pub stores_halt : (s : Stop) (imei slots : ℕ) (records kept : List Record) (rest : List Record) (a b : RingView) (x y z : HostView) (after : MediumState) → records ≡ kept ++ rest → StoresAll imei kept a b x y
-    → Halts (Gives b) s imei slots y z b.medium after → Halts (BeginsStores records a) s imei slots x z a.medium after
-stores_halt s imei slots records kept rest a b x y z after parts st h =
-    halts_after (Gives b) (BeginsStores records a) s imei slots x y z a.medium b.medium after st.log
+pub stores_halt : (address : List ℕ) (s : Stop) (imei slots : ℕ) (records kept : List Record) (rest : List Record) (a b : RingView) (x y z : HostView) (after : MediumState) → records ≡ kept ++ rest → StoresAll imei kept a b x y
+    → Halts address (Gives b) s imei slots y z b.medium after → Halts address (BeginsStores records a) s imei slots x z a.medium after
+stores_halt address s imei slots records kept rest a b x y z after parts st h =
+    halts_after address (Gives b) (BeginsStores records a) s imei slots x y z a.medium b.medium after st.log
     (λ more now g. record { kept = kept; rest = rest; parts = parts; before = st.log; more = more; stores = subst (λ (v : RingView). Stores kept a st.log v) (sym g.1) st.stores; gives = subst (λ (v : RingView). MayGiveUp v more) (sym g.1) g.0; joined = refl })
-    st.printed st.steady [] [] refl (no_wires x y st.others) (sinks_only x y st.others) st.stays.run h
+    st.printed st.steady [] [] refl (no_wires address x y st.others) (sinks_only x y st.others) st.stays.run h
 
 -- ---- records one after the other, as the code comes by them
 one_more : (recs : List Rec) (k : ℕ) (rec : Rec) → k < length recs → rec ≡ get_or recs k rec → records_viewed (take (k + 1) recs) ≡ records_viewed (take k recs) ++ record_of rec ∷ []
@@ -90,11 +90,11 @@ one_more recs k rec low is =
 parts_at : (recs : List Rec) (k : ℕ) → records_viewed recs ≡ records_viewed (take k recs) ++ records_viewed (drop k recs)
 parts_at recs k = ap records_viewed (sym (take-append-drop k recs)) ∙ map-append record_of (take k recs) (drop k recs)
 
-pub all_halt : (s : Stop) (imei named : ℕ) (recs : List Rec) (k : ℕ) (a b : RingView) (x y z : HostView) (after : MediumState) → StoresAll imei (records_viewed (take k recs)) a b x y → named ≡ imei
-    → Halts (Gives b) s named (length b.slots) y z b.medium after → Halts (BeginsStores (records_viewed recs) a) s imei (length a.slots) x z a.medium after
-all_halt s imei named recs k a b x y z after st same h =
-    stores_halt s imei (length a.slots) (records_viewed recs) (records_viewed (take k recs)) (records_viewed (drop k recs)) a b x y z after (parts_at recs k) st
-    (subst (λ (n : ℕ). Halts (Gives b) s imei n y z b.medium after) st.stays.size (subst (λ (n : ℕ). Halts (Gives b) s n (length b.slots) y z b.medium after) same h))
+pub all_halt : (address : List ℕ) (s : Stop) (imei named : ℕ) (recs : List Rec) (k : ℕ) (a b : RingView) (x y z : HostView) (after : MediumState) → StoresAll imei (records_viewed (take k recs)) a b x y → named ≡ imei
+    → Halts address (Gives b) s named (length b.slots) y z b.medium after → Halts address (BeginsStores (records_viewed recs) a) s imei (length a.slots) x z a.medium after
+all_halt address s imei named recs k a b x y z after st same h =
+    stores_halt address s imei (length a.slots) (records_viewed recs) (records_viewed (take k recs)) (records_viewed (drop k recs)) a b x y z after (parts_at recs k) st
+    (subst (λ (n : ℕ). Halts address (Gives b) s imei n y z b.medium after) st.stays.size (subst (λ (n : ℕ). Halts address (Gives b) s n (length b.slots) y z b.medium after) same h))
 
 pub all_more : (imei named : ℕ) (recs : List Rec) (k : ℕ) (rec : Rec) (a b c : RingView) (x y z : HostView) → k < length recs → rec ≡ get_or recs k rec → named ≡ imei → StoresAll imei (records_viewed (take k recs)) a b x y
     → Keeps (record_of rec) false b c → PrintsWhole (drive_text named (gives_up b)) y z → SinkSteady y z → z ≡ record y { sink = z.sink } → StoresAll imei (records_viewed (take (k + 1) recs)) a c x z

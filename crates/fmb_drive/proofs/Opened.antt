@@ -1,5 +1,5 @@
 -- A script that was driven on a flash, from its opening.
-use Rattle.std.proofs.Common.{◌≡◌, ℕ, false, [], ◌∷◌, length, refl, sym, subst, arith}
+use Rattle.std.proofs.Common.{◌≡◌, ℕ, false, List, [], ◌∷◌, length, refl, sym, subst, arith}
 use Rattle.std.specs.Prelude.{Err, IfErr, Ok, Result}
 use Rattle.acquisition.specs.Watching.{Acquiring, powered_up}
 use Rattle.flash_ring.specs.Entries.{held_of}
@@ -20,9 +20,9 @@ use Rattle.tracker_session.specs.Trackers.{TrackerView}
 use Rattle.trial_model.specs.Script.{Script}
 
 -- the flash wasn't opened
-pub stops_unopened : (s : Stop) (d : Driver) (slots : ℕ) (script : Script) (given home : MediumState) (x : HostView) → RefusesFlash s slots given home → StopsOn s d slots script given home x x
-stops_unopened s d slots script given home x r = record {
-  halts = halts_quiet (λ log now. CameTo d slots script (given ∷ []) log) s d.imei slots x given home none unopened r;
+pub stops_unopened : (address : List ℕ) (s : Stop) (d : Driver) (slots : ℕ) (script : Script) (given home : MediumState) (x : HostView) → RefusesFlash s slots given home → StopsOn address s d slots script given home x x
+stops_unopened address s d slots script given home x r = record {
+  halts = halts_quiet address (λ log now. CameTo d slots script (given ∷ []) log) s d.imei slots x given home none unopened r;
   spent = λ e. absurd (r.no_sequence e);
 }
   where
@@ -30,9 +30,9 @@ stops_unopened s d slots script given home x r = record {
     none = record { medium = home; slots = []; next = 0; down = false }
 
 -- a line was broken off
-pub stops_begun : (s : Stop) (d : Driver) (slots : ℕ) (script : Script) (given home : MediumState) (opening : RingView) (x y : HostView) → Opens slots given opening → IsRun given opening.medium ⊥ → length opening.slots ≡ slots
-    → Halts (Begins d script (start opening)) s d.imei (length opening.slots) x y opening.medium home → StopsOn s d slots script given home x y
-stops_begun s d slots script given home opening x y opens run size h = record {
+pub stops_begun : (address : List ℕ) (s : Stop) (d : Driver) (slots : ℕ) (script : Script) (given home : MediumState) (opening : RingView) (x y : HostView) → Opens slots given opening → IsRun given opening.medium ⊥ → length opening.slots ≡ slots
+    → Halts address (Begins d script (start opening)) s d.imei (length opening.slots) x y opening.medium home → StopsOn address s d slots script given home x y
+stops_begun address s d slots script given home opening x y opens run size h = record {
   halts = record {
     log = h.log;
     now = h.now;
@@ -57,12 +57,12 @@ stops_begun s d slots script given home opening x y opens run size h = record {
 }
 
 -- ---- by the tracker and the acquirer that were made
-module _ (d : Driver) (slots : ℕ) (script : Script) (given : MediumState) (opening : RingView) (t u : TrackerView) (p q : Acquiring) (x y : HostView)
+module _ (address : List ℕ) (d : Driver) (slots : ℕ) (script : Script) (given : MediumState) (opening : RingView) (t u : TrackerView) (p q : Acquiring) (x y : HostView)
     (tracker : t ≡ record { imei = d.imei; ring = opening; order = d.order; talking = false; answered = false; batch = []; have = [] }) (acquirer : p ≡ record { settings = d.settings; watching = powered_up })
     (opens : Opens slots given opening) (run : IsRun given opening.medium ⊥) where
   -- the script was done
-  pub plays_plain : (home : MediumState) (count : ℕ) → DoesAll (driver t p) script (stage t p) (stage u q) x y → home ≡ u.ring.medium → count ≡ length (held_of u.ring.slots) → (u.ring.down ≡ false → IsDurable u.ring)
-      → DrovePlain d slots script given home count x y
+  pub plays_plain : (home : MediumState) (count : ℕ) → DoesAll address (driver t p) script (stage t p) (stage u q) x y → home ≡ u.ring.medium → count ≡ length (held_of u.ring.slots) → (u.ring.down ≡ false → IsDurable u.ring)
+      → DrovePlain address d slots script given home count x y
   plays_plain home count does back held durable = record {
     opening = opening;
     closing = stage u q;
@@ -74,16 +74,16 @@ module _ (d : Driver) (slots : ℕ) (script : Script) (given : MediumState) (ope
     durable = durable does_here.stays.up;
   }
     where
-      does_here : DoesAll d script (start opening) (stage u q) x y
-      does_here = subst (λ (v : TrackerView). DoesAll (driver v (let a : Acquiring = record { settings = d.settings; watching = powered_up } in a)) script (stage v (let a : Acquiring = record { settings = d.settings; watching = powered_up } in a)) (stage u q) x y) tracker
-          (subst (λ (a : Acquiring). DoesAll (driver t a) script (stage t a) (stage u q) x y) acquirer does)
+      does_here : DoesAll address d script (start opening) (stage u q) x y
+      does_here = subst (λ (v : TrackerView). DoesAll address (driver v (let a : Acquiring = record { settings = d.settings; watching = powered_up } in a)) script (stage v (let a : Acquiring = record { settings = d.settings; watching = powered_up } in a)) (stage u q) x y) tracker
+          (subst (λ (a : Acquiring). DoesAll address (driver t a) script (stage t a) (stage u q) x y) acquirer does)
 
   -- it was broken off
-  pub plays_stopped : (s : Stop) (home : MediumState) → length opening.slots ≡ slots → home ≡ u.ring.medium → Halts (Begins (driver t p) script (stage t p)) s t.imei (length t.ring.slots) x y t.ring.medium u.ring.medium → StopsOn s d slots script given home x y
-  plays_stopped s home size back h = subst (λ (m : MediumState). StopsOn s d slots script given m x y) (sym back)
-      (stops_begun s d slots script given u.ring.medium opening x y opens run size
-      (subst (λ (v : TrackerView). Halts (Begins (driver v (let a : Acquiring = record { settings = d.settings; watching = powered_up } in a)) script (stage v (let a : Acquiring = record { settings = d.settings; watching = powered_up } in a))) s v.imei (length v.ring.slots) x y v.ring.medium u.ring.medium) tracker
-      (subst (λ (a : Acquiring). Halts (Begins (driver t a) script (stage t a)) s t.imei (length t.ring.slots) x y t.ring.medium u.ring.medium) acquirer h)))
+  pub plays_stopped : (s : Stop) (home : MediumState) → length opening.slots ≡ slots → home ≡ u.ring.medium → Halts address (Begins (driver t p) script (stage t p)) s t.imei (length t.ring.slots) x y t.ring.medium u.ring.medium → StopsOn address s d slots script given home x y
+  plays_stopped s home size back h = subst (λ (m : MediumState). StopsOn address s d slots script given m x y) (sym back)
+      (stops_begun address s d slots script given u.ring.medium opening x y opens run size
+      (subst (λ (v : TrackerView). Halts address (Begins (driver v (let a : Acquiring = record { settings = d.settings; watching = powered_up } in a)) script (stage v (let a : Acquiring = record { settings = d.settings; watching = powered_up } in a))) s v.imei (length v.ring.slots) x y v.ring.medium u.ring.medium) tracker
+      (subst (λ (a : Acquiring). Halts address (Begins (driver t a) script (stage t a)) s t.imei (length t.ring.slots) x y t.ring.medium u.ring.medium) acquirer h)))
 
 -- ---- a result by how it came to be
 pub if_ok : {T E : Type 0} (r : Result T E) (P : E → Type 0) (x : T) → r ≡ Ok x → IfErr r P

@@ -5,9 +5,9 @@ use Rattle.std.proofs.lemmas.Grind.{flat_map-append}
 use Rattle.std.specs.Io.KnownBytes.{Appends}
 use Rattle.avl_values.specs.Record.{Record}
 use Rattle.flash_ring.specs.Ring.{RingView}
-use Rattle.fmb_host.proofs.Stocks.{passes_none, passes_then}
+use Rattle.fmb_host.proofs.Stocks.{named_none, named_then}
 use Rattle.fmb_host.specs.Host.{HostView}
-use Rattle.fmb_host.specs.Stocks.{Passes}
+use Rattle.fmb_host.specs.Stocks.{PassesNamed}
 use Rattle.fmb_io.specs.Printed.{PrintsWhole, SinkSteady}
 use Rattle.fmb_drive.specs.Log.{Event, back_by, back_in, connected, drive_text, event_line, given_by, given_in, lost}
 use Rattle.fmb_drive.specs.Runs.{Driver, Stage, begins, gives_up, goes_on, more, none}
@@ -69,19 +69,19 @@ both_others : (x y z : HostView) → y ≡ record x { sink = y.sink; wires = y.w
 both_others x y z first next = next ∙ ap (λ (h : HostView). record h { sink = z.sink; wires = z.wires }) first
 
 -- no line was done
-pub does_none : (d : Driver) (a : Stage) (x : HostView) → a.ring.down ≡ false → DoesAll d [] a a x x
-does_none d a x up = record { log = []; runs = begins a; printed = prints_none d.imei x; steady = refl; wires = passes_none x.wires; stays = stays_none a.ring up; others = refl }
+pub does_none : (address : List ℕ) (d : Driver) (a : Stage) (x : HostView) → a.ring.down ≡ false → DoesAll address d [] a a x x
+does_none address d a x up = record { log = []; runs = begins a; printed = prints_none d.imei x; steady = refl; wires = named_none address x.wires; stays = stays_none a.ring up; others = refl }
 
 -- one line more was done
-pub does_more : (d : Driver) (lines : Script) (line : ℕ × ScriptLine) (a b c : Stage) (x y z : HostView) → DoesAll d lines a b x y → DoesOne d line.0 line.1 b c y z → DoesAll d (lines ++ line ∷ []) a c x z
-does_more d lines line a b c x y z s one = record {
+pub does_more : (address : List ℕ) (d : Driver) (lines : Script) (line : ℕ × ScriptLine) (a b c : Stage) (x y z : HostView) → DoesAll address d lines a b x y → DoesOne address d line.0 line.1 b c y z → DoesAll address d (lines ++ line ∷ []) a c x z
+does_more address d lines line a b c x y z s one = record {
   log = s.log ++ one.log;
   runs = goes_on lines line a b c s.log one.log s.runs one.does;
   printed = prints_then d.imei s.log one.log x y z s.printed one.printed;
   steady = one.steady ∙ s.steady;
-  wires = subst (λ given. Passes given (back_in (s.log ++ one.log)) x.wires z.wires) (sym (flat_map-append given_by s.log one.log))
-      (subst (λ back. Passes (given_in s.log ++ given_in one.log) back x.wires z.wires) (sym (flat_map-append back_by s.log one.log))
-      (passes_then (given_in s.log) (given_in one.log) (back_in s.log) (back_in one.log) x.wires y.wires z.wires s.wires one.wires));
+  wires = subst (λ given. PassesNamed address given (back_in (s.log ++ one.log)) x.wires z.wires) (sym (flat_map-append given_by s.log one.log))
+      (subst (λ back. PassesNamed address (given_in s.log ++ given_in one.log) back x.wires z.wires) (sym (flat_map-append back_by s.log one.log))
+      (named_then address (given_in s.log) (given_in one.log) (back_in s.log) (back_in one.log) x.wires y.wires z.wires s.wires one.wires));
   stays = stays_then a.ring b.ring c.ring s.stays one.stays;
   others = both_others x y z s.others one.others;
 }

@@ -2,7 +2,7 @@
 use Rattle.std.proofs.Common.{◌≡◌, ◌≢◌, ◌⊎◌, inl, inr, ◌+◌, ℕ, List, [], ◌∷◌, Option, Some, None, Ok, Err, sym, ap, subst, ◌∙◌, arith}
 use Rattle.fmb_drive.specs.Drive.{HasFailed, IsDone, IsDrivable, IsFaulty, RanDrive, driven, failed, idle}
 use Rattle.fmb_host.specs.Host.{HostView}
-use Rattle.fmb_host.specs.Stocks.{LosesFirst, LosesFront, Passes}
+use Rattle.fmb_host.specs.Stocks.{LosesFirst, LosesFront, PassesNamed}
 use Rattle.fmb_host.specs.declared.host.Counts.{Counts}
 use Rattle.fmb_io.specs.Printed.{SinkFailed}
 use Rattle.fmb_io.specs.Text.{HasNext, IsOpened, IsTextOf}
@@ -40,11 +40,11 @@ same_text word text opened before after next o =
     first a b rest (Some later) lost = cc
 
 -- the script of a text that was done
-script_in : (text : List ℕ) (x y : HostView) → IsDone text x y → (script : Script) × IsDrivable text script
-script_in text x y (idle script is none media wires sink) = (script, is)
-script_in text x y (driven script is p) = (script, is)
+script_in : (address flash : List ℕ) (text : List ℕ) (x y : HostView) → IsDone address flash text x y → (script : Script) × IsDrivable text script
+script_in address flash text x y (idle script is none media wires sink) = (script, is)
+script_in address flash text x y (driven script is p) = (script, is)
 
-module _ (word : List ℕ) (status : ℕ) (x y : HostView) (r : RanDrive word status x y) where
+module _ (address flash word : List ℕ) (status : ℕ) (x y : HostView) (r : RanDrive address flash word status x y) where
   -- a count that is the same didn't rise
   not_four : y.counts ≡ x.counts → status ≡ 4 → ⊥
   not_four same e = let more : x.counts.texts ≡ x.counts.texts + 1 = ap (λ (k : Counts). k.texts) (sym same ∙ r.source_cause e) in omega (arith, more)
@@ -62,7 +62,7 @@ module _ (word : List ℕ) (status : ℕ) (x y : HostView) (r : RanDrive word st
       never opened script o d = clash text line kind script faulty (subst (λ t. IsDrivable t script) (sym (same_text word text opened x y next o)) d)
 
       by : (status ≡ 0) ⊎ (status ≡ 3) ⊎ (status ≡ 4) ⊎ (status ≡ 5) ⊎ (status ≡ 6) ⊎ (status ≡ 7) ⊎ (status ≡ 8) ⊎ (status ≡ 9) → (status ≡ 3) ⊎ (status ≡ 9)
-      by (inl e) = let d = r.done e in let s = script_in d.0 x y d.2 in absurd (never d.0 s.0 d.1 s.1)
+      by (inl e) = let d = r.done e in let s = script_in address flash d.0 x y d.2 in absurd (never d.0 s.0 d.1 s.1)
       by (inr (inl e)) = inl e
       by (inr (inr (inl e))) = absurd (not_four same e)
       by (inr (inr (inr (inl e)))) = let d = r.cut_off e in absurd (never d.0 d.2.0 d.1 d.2.1)
@@ -84,14 +84,14 @@ module _ (word : List ℕ) (status : ℕ) (x y : HostView) (r : RanDrive word st
       by (inr (inr (inr (inr (inr (inr (inl e))))))) = inr (inl e)
       by (inr (inr (inr (inr (inr (inr (inr e))))))) = inr (inr e)
 
-  pub spared_then : (flash : MediumState) (later : List MediumState) → x.media.coming ≡ Some (flash ∷ later) → flash.left ≡ unlimited → status ≢ 6
-  spared_then flash later coming sound e = let p = r.medium_fault e in by p.2.2.given p.2.2.home p.2.2.holds.0 p.2.2.media
+  pub spared_then : (medium : MediumState) (later : List MediumState) → x.media.coming ≡ Some (medium ∷ later) → medium.left ≡ unlimited → status ≢ 6
+  spared_then medium later coming sound e = let p = r.medium_fault e in by p.2.2.given p.2.2.home p.2.2.holds.0 p.2.2.media
     where
-      first : (f : MediumState) (rest : Option (List MediumState)) → LosesFront (Some (flash ∷ later)) (f ∷ []) rest → f ≡ flash
+      first : (f : MediumState) (rest : Option (List MediumState)) → LosesFront (Some (medium ∷ later)) (f ∷ []) rest → f ≡ medium
       first f None lost = absurd lost
-      first f (Some rest) lost = let whole : flash ∷ later ≡ f ∷ rest = lost in cc
+      first f (Some rest) lost = let whole : medium ∷ later ≡ f ∷ rest = lost in cc
 
-      by : (given home : List MediumState) → HasFailed given home → Passes given home x.media y.media → ⊥
+      by : (given home : List MediumState) → HasFailed given home → PassesNamed flash given home x.media y.media → ⊥
       by given home (failed f b rose may) p =
-          let lost : LosesFront (Some (flash ∷ later)) (f ∷ []) y.media.coming = subst (λ c. LosesFront c (f ∷ []) y.media.coming) coming p.coming in
+          let lost : LosesFront (Some (medium ∷ later)) (f ∷ []) y.media.coming = subst (λ c. LosesFront c (f ∷ []) y.media.coming) coming p.passes.coming in
           may (ap (λ (m : MediumState). m.left) (first f y.media.coming lost) ∙ sound)

@@ -7,9 +7,9 @@ use Rattle.fmb_drive.specs.Ending.{Drives, DrivesText}
 use Rattle.fmb_drive.specs.Scripts.{TellsDevice}
 use Rattle.fmb_drive.specs.declared.device.Driven.{Driven}
 use Rattle.fmb_drive.specs.Log.{Event, back_in, drive_text, flash_line, given_in}
-use Rattle.fmb_host.proofs.Stocks.{passes_none}
+use Rattle.fmb_host.proofs.Stocks.{named_along, named_none}
 use Rattle.fmb_host.specs.Host.{HostView, with_host_fault}
-use Rattle.fmb_host.specs.Stocks.{Passes, Stock}
+use Rattle.fmb_host.specs.Stocks.{PassesNamed, Stock}
 use Rattle.fmb_host.specs.declared.host.Counts.{Counts}
 use Rattle.fmb_io.proofs.ReadSteps.{same_judged}
 use Rattle.fmb_io.proofs.Steps.{prints_on, returned_along}
@@ -30,13 +30,13 @@ use Rattle.text_streams.specs.Writes as writes
 use Rattle.trial_model.specs.Script.{Device, Script}
 
 -- nothing was handed out
-pub all_back_none : {T : Type 0} (a b : Stock T) → b ≡ a → AllBack a b
-all_back_none a b same = record { given = []; back = []; same_count = refl; passes = subst (λ s. Passes [] [] a s) (sym same) (passes_none a) }
+pub all_back_none : {T : Type 0} (name : List ℕ) (a b : Stock T) → b ≡ a → AllBack name a b
+all_back_none name a b same = record { given = []; back = []; same_count = refl; passes = named_along name [] [] a a b (named_none name a) same }
 
 -- ---- a text that was judged
 -- a script was driven
-pub text_driven : (text : List ℕ) (script : Script) (status : ℕ) (x y : HostView) → IsDrivable text script → Drives script status x y → DrivesText text status x y
-text_driven text script status x y is d = record {
+pub text_driven : (address flash : List ℕ) (text : List ℕ) (script : Script) (status : ℕ) (x y : HostView) → IsDrivable text script → Drives address flash script status x y → DrivesText address flash text status x y
+text_driven address flash text script status x y is d = record {
   among = elim d.among [ inl e ↦ inl e | inr a ↦ inr (inr a) ];
   done = λ e. driven script is (d.done e);
   sink_steady = d.sink_steady;
@@ -70,9 +70,9 @@ same_but_sink : (x y : HostView) → y ≡ record x { sink = y.sink } → y ≡ 
 same_but_sink x y e = e ∙ ap (λ (h : HostView). record x { counts = h.counts; sink = y.sink; media = h.media; wires = h.wires }) (sym e)
 
 -- it was refused, or memory ran out
-pub text_refused : (text : List ℕ) (line : ℕ) (kind : ScriptFault) (status : ℕ) (x y : HostView) → IsFaulty text line kind → (status ≡ 3) ⊎ (status ≡ 9) → (status ≡ 3 → Prints (refused_line line (fault_name kind)) x y)
-    → (status ≡ 9 → Prints (codes "no memory\n") x y) → y ≡ record x { sink = y.sink } → DrivesText text status x y
-text_refused text line kind status x y faulty among refused no_memory others = record {
+pub text_refused : (address flash : List ℕ) (text : List ℕ) (line : ℕ) (kind : ScriptFault) (status : ℕ) (x y : HostView) → IsFaulty text line kind → (status ≡ 3) ⊎ (status ≡ 9) → (status ≡ 3 → Prints (refused_line line (fault_name kind)) x y)
+    → (status ≡ 9 → Prints (codes "no memory\n") x y) → y ≡ record x { sink = y.sink } → DrivesText address flash text status x y
+text_refused address flash text line kind status x y faulty among refused no_memory others = record {
   among = elim among [ inl e ↦ inr (inl e) | inr e ↦ inr (inr (inr (inr (inr (inr e))))) ];
   done = λ e. absurd (never among e (λ k. omega (arith, k)) (λ k. omega (arith, k)));
   sink_steady = λ e. absurd (never among e (λ k. omega (arith, k)) (λ k. omega (arith, k)));
@@ -85,8 +85,8 @@ text_refused text line kind status x y faulty among refused no_memory others = r
   host_cause = λ e. absurd (never among e (λ k. omega (arith, k)) (λ k. omega (arith, k)));
   refused_flash = λ e. absurd (never among e (λ k. omega (arith, k)) (λ k. omega (arith, k)));
   no_memory = λ e. inl (no_memory e);
-  media_back = all_back_none x.media y.media (ap (λ (h : HostView). h.media) others);
-  wires_back = all_back_none x.wires y.wires (ap (λ (h : HostView). h.wires) others);
+  media_back = all_back_none flash x.media y.media (ap (λ (h : HostView). h.media) others);
+  wires_back = all_back_none address x.wires y.wires (ap (λ (h : HostView). h.wires) others);
   texts_before = ap (λ (h : HostView). h.counts.texts) others;
   host_before = λ other. ap (λ (h : HostView). h.counts.host) others;
   doors_before = ap (λ (h : HostView). h.counts.doors) others;
@@ -98,8 +98,8 @@ text_refused text line kind status x y faulty among refused no_memory others = r
     never (inr a) e three nine = nine (sym a ∙ e)
 
 -- a script without a device
-pub text_idle : (text : List ℕ) (script : Script) (x : HostView) → IsDrivable text script → device_in script ≡ None → DrivesText text 0 x x
-text_idle text script x is none = record {
+pub text_idle : (address flash : List ℕ) (text : List ℕ) (script : Script) (x : HostView) → IsDrivable text script → device_in script ≡ None → DrivesText address flash text 0 x x
+text_idle address flash text script x is none = record {
   among = inl refl;
   done = λ e. idle script is none refl refl refl;
   sink_steady = λ e. refl;
@@ -112,8 +112,8 @@ text_idle text script x is none = record {
   host_cause = λ e. absurd (omega (arith, e));
   refused_flash = λ e. absurd (omega (arith, e));
   no_memory = λ e. absurd (omega (arith, e));
-  media_back = all_back_none x.media x.media refl;
-  wires_back = all_back_none x.wires x.wires refl;
+  media_back = all_back_none flash x.media x.media refl;
+  wires_back = all_back_none address x.wires x.wires refl;
   texts_before = refl;
   host_before = λ other. refl;
   doors_before = refl;
@@ -121,8 +121,8 @@ text_idle text script x is none = record {
 }
 
 -- memory ran out before anything was done
-pub text_no_memory : (text : List ℕ) (status : ℕ) (x y : HostView) → status ≡ 9 → Prints (codes "no memory\n") x y → y ≡ record x { sink = y.sink } → DrivesText text status x y
-text_no_memory text status x y is line others = record {
+pub text_no_memory : (address flash : List ℕ) (text : List ℕ) (status : ℕ) (x y : HostView) → status ≡ 9 → Prints (codes "no memory\n") x y → y ≡ record x { sink = y.sink } → DrivesText address flash text status x y
+text_no_memory address flash text status x y is line others = record {
   among = inr (inr (inr (inr (inr (inr is)))));
   done = λ e. absurd (omega (arith, is, e));
   sink_steady = λ e. absurd (omega (arith, is, e));
@@ -135,8 +135,8 @@ text_no_memory text status x y is line others = record {
   host_cause = λ e. absurd (omega (arith, is, e));
   refused_flash = λ e. absurd (omega (arith, is, e));
   no_memory = λ e. inl line;
-  media_back = all_back_none x.media y.media (ap (λ (h : HostView). h.media) others);
-  wires_back = all_back_none x.wires y.wires (ap (λ (h : HostView). h.wires) others);
+  media_back = all_back_none flash x.media y.media (ap (λ (h : HostView). h.media) others);
+  wires_back = all_back_none address x.wires y.wires (ap (λ (h : HostView). h.wires) others);
   texts_before = ap (λ (h : HostView). h.counts.texts) others;
   host_before = λ other. ap (λ (h : HostView). h.counts.host) others;
   doors_before = ap (λ (h : HostView). h.counts.doors) others;
@@ -150,8 +150,8 @@ ended_text : (o : Option (List ℕ)) (text : List ℕ) (script : Script) → IsA
 ended_text o text script (inl end) is = end
 ended_text o text script (inr long) is = absurd (let never : Err _ ≡ Ok script = sym (too_long text long) ∙ is in cc)
 
-module _ (word text : List ℕ) (status : ℕ) (x y z : HostView) (reads : ReadsText word text x y) (returned : IsReturned (λ read. IsAtEnd read.left ⊎ (2 ^ 24 < length text)) x y) (counts : y.counts ≡ x.counts)
-    (fetched : y ≡ record x { counts = y.counts; texts = y.texts }) (d : DrivesText text status y z) where
+module _ (address flash word text : List ℕ) (status : ℕ) (x y z : HostView) (reads : ReadsText word text x y) (returned : IsReturned (λ read. IsAtEnd read.left ⊎ (2 ^ 24 < length text)) x y) (counts : y.counts ≡ x.counts)
+    (fetched : y ≡ record x { counts = y.counts; texts = y.texts }) (d : DrivesText address flash text status y z) where
   sinks : y.sink ≡ x.sink
   sinks = ap (λ (h : HostView). h.sink) fetched
 
@@ -186,7 +186,7 @@ module _ (word text : List ℕ) (status : ℕ) (x y z : HostView) (reads : Reads
   drivable : (script : Script) → IsDrivable text script → IsDrivable found.0 script
   drivable script is = record { is_script = found.2 ∙ is.is_script; no_fault = is.no_fault }
 
-  driven_from : (script : Script) → IsDriven script y z → IsDriven script x z
+  driven_from : (script : Script) → IsDriven address flash script y z → IsDriven address flash script x z
   driven_from script p = record {
     d = p.d;
     is = p.is;
@@ -196,13 +196,13 @@ module _ (word text : List ℕ) (status : ℕ) (x y z : HostView) (reads : Reads
     open_slots = p.open_slots;
     drove = p.drove;
     works = record {
-      media = subst (λ s. Passes (p.given ∷ []) (p.home ∷ []) s z.media) media p.works.media;
-      wires = subst (λ s. Passes (given_in p.log) (back_in p.log) s z.wires) wires p.works.wires;
+      media = subst (λ s. PassesNamed flash (p.given ∷ []) (p.home ∷ []) s z.media) media p.works.media;
+      wires = subst (λ s. PassesNamed address (given_in p.log) (back_in p.log) s z.wires) wires p.works.wires;
     };
     printed = moved (writes.PrintsWhole (drive_text p.d.imei p.log ++ flash_line p.open_slots)) p.printed;
   }
 
-  done_from : IsDone text y z → IsDone found.0 x z
+  done_from : IsDone address flash text y z → IsDone address flash found.0 x z
   done_from (idle script is none same_media same_wires sink) =
       idle script (drivable script is) none (same_media ∙ media) (same_wires ∙ wires) (sink ∙ sinks)
   done_from (driven script is p) = driven script (drivable script is) (driven_from script p)
@@ -212,7 +212,7 @@ module _ (word text : List ℕ) (status : ℕ) (x y z : HostView) (reads : Reads
 
   -- what was begun
   of_from : (P Q : Script → Device → List Event → List MediumState → List MediumState → Type 0) → ((script : Script) (dev : Device) (log : List Event) (given home : List MediumState) → P script dev log given home → Q script dev log given home)
-      → OfDriven text y z P → OfDriven found.0 x z Q
+      → OfDriven flash text y z P → OfDriven flash found.0 x z Q
   of_from P Q along (script, is, p) = (
     script,
     drivable script is,
@@ -223,7 +223,7 @@ module _ (word text : List ℕ) (status : ℕ) (x y z : HostView) (reads : Reads
       home = p.home;
       log = p.log;
       came = p.came;
-      media = subst (λ s. Passes p.given p.home s z.media) media p.media;
+      media = subst (λ s. PassesNamed flash p.given p.home s z.media) media p.media;
       holds = along script p.d p.log p.given p.home p.holds;
     },
   )
@@ -235,7 +235,7 @@ module _ (word text : List ℕ) (status : ℕ) (x y z : HostView) (reads : Reads
   refusal_from : (script : Script) (dev : Device) (log : List Event) (given home : List MediumState) → SaysRefusal script y z dev log given home → SaysRefusal script x z dev log given home
   refusal_from script dev log given home (refuses flash back refusal is p) = refuses flash back refusal is (moved_then (drive_text dev.imei log) (refusal_line refusal) p)
 
-  says_from : (line : List ℕ) → OfDriven text y z (λ script. Says line y z) → OfDriven found.0 x z (λ script. Says line x z)
+  says_from : (line : List ℕ) → OfDriven flash text y z (λ script. Says line y z) → OfDriven flash found.0 x z (λ script. Says line x z)
   says_from line p = of_from (λ script. Says line y z) (λ script. Says line x z) (λ script dev log given home q. moved_then (drive_text dev.imei log) line q) p
 
   -- the text of a script that was begun came back at its end
@@ -243,7 +243,7 @@ module _ (word text : List ℕ) (status : ℕ) (x y z : HostView) (reads : Reads
   back_at_end script is = let r = returned_along (λ read. IsAtEnd read.left ⊎ (2 ^ 24 < length text)) x y z returned (ap (λ (h : HostView). h.texts) d.others) in
       record { source = r.source; read = r.read; passes = r.passes; holds = ended_text r.read.left text script r.holds is }
 
-  script_done : IsDone text y z → (script : Script) × (script_of text ≡ Ok script)
+  script_done : IsDone address flash text y z → (script : Script) × (script_of text ≡ Ok script)
   script_done (idle script is none same_media same_wires sink) = (script, is.is_script)
   script_done (driven script is p) = (script, is.is_script)
 
@@ -260,7 +260,7 @@ module _ (word text : List ℕ) (status : ℕ) (x y z : HostView) (reads : Reads
       by read holds not_refused not_memory (inr (inr (inr (inr (inr (inl e)))))) = let p = d.refused_flash e in ended_text read.left text p.0 holds p.1.is_script
       by read holds not_refused not_memory (inr (inr (inr (inr (inr (inr e)))))) = absurd (not_memory e)
 
-  pub ran_from : RanDrive word status x z
+  pub ran_from : RanDrive address flash word status x z
   ran_from = record {
     among = elim d.among [ inl e ↦ inl e | inr a ↦ elim a [ inl e ↦ inr (inl e) | inr b ↦ inr (inr (inr b)) ] ];
     done = λ e. (found.0, opened, done_from (d.done e));
@@ -278,8 +278,8 @@ module _ (word text : List ℕ) (status : ℕ) (x y z : HostView) (reads : Reads
     no_memory = λ e. elim (d.no_memory e) [ inl p ↦ inl (moved (writes.Prints (codes "no memory\n")) p) | inr p ↦ inr (found.0, opened, says_from (codes "no memory\n") p) ];
     returned = λ other. came_back;
     returned_or_none = λ e. let p = d.host_fault e in inr (back_at_end p.0 p.1.is_script);
-    media_back = subst (λ s. AllBack s z.media) media d.media_back;
-    wires_back = subst (λ s. AllBack s z.wires) wires d.wires_back;
+    media_back = subst (λ s. AllBack flash s z.media) media d.media_back;
+    wires_back = subst (λ s. AllBack address s z.wires) wires d.wires_back;
     texts_before = λ other. d.texts_before ∙ ap (λ (k : Counts). k.texts) counts;
     host_before = λ other. d.host_before other ∙ ap (λ (k : Counts). k.host) counts;
     doors_before = d.doors_before ∙ ap (λ (k : Counts). k.doors) counts;
@@ -298,9 +298,9 @@ module _ (word text : List ℕ) (status : ℕ) (x y z : HostView) (reads : Reads
       not_four (inr (inr (inr (inr (inr (inr a)))))) e = omega (arith, a, e)
 
 -- ---- the text was not had
-module _ (word : List ℕ) (status : ℕ) (x y z : HostView) (fetched : y ≡ record x { counts = y.counts; texts = y.texts }) (last : z ≡ record y { sink = z.sink }) where
+module _ (address flash word : List ℕ) (status : ℕ) (x y z : HostView) (fetched : y ≡ record x { counts = y.counts; texts = y.texts }) (last : z ≡ record y { sink = z.sink }) where
   not_had : (P : SourceState → Type 0) → (status ≡ 4) ⊎ (status ≡ 7) ⊎ (status ≡ 9) → (status ≡ 4 → y.counts ≡ record x.counts { texts = x.counts.texts + 1 }) → (status ≡ 7 → y ≡ with_host_fault x) → (status ≡ 9 → y.counts ≡ x.counts)
-      → (status ≡ 4 → Prints (codes "source fault\n") y z) → (status ≡ 7 → Prints (codes "host fault\n") y z) → (status ≡ 9 → Prints (codes "no memory\n") y z) → (status ≢ 7 → IsReturned P x y) → RanDrive word status x z
+      → (status ≡ 4 → Prints (codes "source fault\n") y z) → (status ≡ 7 → Prints (codes "host fault\n") y z) → (status ≡ 9 → Prints (codes "no memory\n") y z) → (status ≢ 7 → IsReturned P x y) → RanDrive address flash word status x z
   not_had P among source host memory source_line host_line memory_line returned = record {
     among = elim among [ inl e ↦ inr (inr (inl e)) | inr a ↦ elim a [ inl e ↦ inr (inr (inr (inr (inr (inl e))))) | inr e ↦ inr (inr (inr (inr (inr (inr (inr e)))))) ] ];
     done = λ e. absurd (never among e (λ k. omega (arith, k)) (λ k. omega (arith, k)) (λ k. omega (arith, k)));
@@ -319,8 +319,8 @@ module _ (word : List ℕ) (status : ℕ) (x y z : HostView) (fetched : y ≡ re
     returned = λ other. let r = returned_along P x y z (returned other) (ap (λ (h : HostView). h.texts) last) in
         record { source = r.source; read = r.read; passes = r.passes; holds = λ not_refused not_source not_memory. absurd (elim among [ inl e ↦ not_source e | inr a ↦ elim a [ inl e ↦ other e | inr e ↦ not_memory e ] ]) };
     returned_or_none = λ e. inl (none_opened e);
-    media_back = all_back_none x.media z.media (ap (λ (h : HostView). h.media) last ∙ ap (λ (h : HostView). h.media) fetched);
-    wires_back = all_back_none x.wires z.wires (ap (λ (h : HostView). h.wires) last ∙ ap (λ (h : HostView). h.wires) fetched);
+    media_back = all_back_none flash x.media z.media (ap (λ (h : HostView). h.media) last ∙ ap (λ (h : HostView). h.media) fetched);
+    wires_back = all_back_none address x.wires z.wires (ap (λ (h : HostView). h.wires) last ∙ ap (λ (h : HostView). h.wires) fetched);
     texts_before = λ other. elim among [ inl e ↦ absurd (other e) | inr a ↦ elim a [ inl e ↦ ap (λ (k : Counts). k.texts) (counts ∙ ap (λ (h : HostView). h.counts) (host e)) | inr e ↦ ap (λ (k : Counts). k.texts) (counts ∙ memory e) ] ];
     host_before = λ other. elim among [ inl e ↦ ap (λ (k : Counts). k.host) (counts ∙ source e) | inr a ↦ elim a [ inl e ↦ absurd (other e) | inr e ↦ ap (λ (k : Counts). k.host) (counts ∙ memory e) ] ];
     doors_before = elim among [ inl e ↦ ap (λ (k : Counts). k.doors) (counts ∙ source e) | inr a ↦ elim a [ inl e ↦ ap (λ (k : Counts). k.doors) (counts ∙ ap (λ (h : HostView). h.counts) (host e)) | inr e ↦ ap (λ (k : Counts). k.doors) (counts ∙ memory e) ] ];
@@ -346,7 +346,7 @@ module _ (word : List ℕ) (status : ℕ) (x y z : HostView) (fetched : y ≡ re
   -- by why it was not had
   pub missed : (P : SourceState → Type 0) (missing : Missing) → (missing ≡ missing_by.Source → y.counts ≡ record x.counts { texts = x.counts.texts + 1 }) → (missing ≡ missing_by.Host → y ≡ with_host_fault x) → (missing ≡ missing_by.NoMemory → y.counts ≡ x.counts)
       → (missing ≡ missing_by.Host → (status ≡ 7) × Prints (codes "host fault\n") y z) → (missing ≡ missing_by.Source → (status ≡ 4) × Prints (codes "source fault\n") y z) → (missing ≡ missing_by.NoMemory → (status ≡ 9) × Prints (codes "no memory\n") y z)
-      → (missing ≢ missing_by.Host → IsReturned P x y) → RanDrive word status x z
+      → (missing ≢ missing_by.Host → IsReturned P x y) → RanDrive address flash word status x z
   missed P missing_by.Host source host memory by_host by_source by_memory returned = let p = by_host refl in
       not_had P (inr (inl p.0)) (λ e. absurd (omega (arith, p.0, e))) (λ e. host refl) (λ e. absurd (omega (arith, p.0, e))) (λ e. absurd (omega (arith, p.0, e))) (λ e. p.1) (λ e. absurd (omega (arith, p.0, e))) (λ other. absurd (other p.0))
   missed P missing_by.Source source host memory by_host by_source by_memory returned = let p = by_source refl in

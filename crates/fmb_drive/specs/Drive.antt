@@ -11,7 +11,7 @@ use Rattle.flash_ring.specs.Ring.{EachHolds, IsDurable, RingView}
 use Rattle.flash_ring.specs.Slot.{IsFlash, slots_of}
 use Rattle.flash_ring.specs.declared.load.ReopenFault.TheVariants as fault
 use Rattle.fmb_host.specs.Host.{HostView}
-use Rattle.fmb_host.specs.Stocks.{Passes, Stock}
+use Rattle.fmb_host.specs.Stocks.{PassesNamed, Stock}
 use Rattle.fmb_io.specs.Printed.{Prints, PrintsFront, PrintsWhole, SinkFailed, SinkSteady}
 use Rattle.fmb_io.specs.Text.{HasNext, IsReturned, OfOpened, OpensNothing}
 use Rattle.fmb_drive.specs.Log.{Event, back_in, drive_text, flash_line, given_in, lost_in, released_in}
@@ -74,17 +74,17 @@ pub data CameTo (d : Driver) (slots : ℕ) (script : Script) (given : List Mediu
   broken_off : (flash : MediumState) (opening now : RingView) (log : List Event) → given ≡ flash ∷ [] → Opens slots flash opening → Begins d script (start opening) log now → CameTo d slots script given log
   ended : (flash : MediumState) (opening : RingView) (closing : Stage) (log : List Event) → given ≡ flash ∷ [] → Opens slots flash opening → Runs d script (start opening) log closing → CameTo d slots script given log
 
--- what a script was driven over: one flash and some links, which were handed out and came back
-pub record Works (given back : List MediumState) (links ends : List LinkState) (before after : HostView) : Type 0 where
-  pub media : Passes given back before.media after.media
-  pub wires : Passes links ends before.wires after.wires
+-- what a script was driven over: one flash and some links, which were handed out under its name and the address, and came back
+pub record Works (address flash : List ℕ) (given back : List MediumState) (links ends : List LinkState) (before after : HostView) : Type 0 where
+  pub media : PassesNamed flash given back before.media after.media
+  pub wires : PassesNamed address links ends before.wires after.wires
 
--- all that was handed out came back
-pub record AllBack {T : Type 0} (before after : Stock T) : Type 0 where
+-- all that was handed out, which was under this name, came back
+pub record AllBack {T : Type 0} (name : List ℕ) (before after : Stock T) : Type 0 where
   pub given : List T
   pub back : List T
   pub same_count : length back ≡ length given
-  pub passes : Passes given back before after
+  pub passes : PassesNamed name given back before after
 
 -- the first device line of the script
 abbrev pub first_of : List Device → Option Device
@@ -110,8 +110,8 @@ pub record IsRefused (text : List ℕ) (before after : HostView) : Type 0 where
   pub is : IsFaulty text line kind
   pub printed : Prints (refused_line line (fault_name kind)) before after
 
--- a script was done on a flash and links of the host, and what happened was printed, and then the open slots
-pub record IsDriven (script : Script) (before after : HostView) : Type 0 where
+-- a script was done on the flash of this name and links of this address, and what happened was printed, and then the open slots
+pub record IsDriven (address flash : List ℕ) (script : Script) (before after : HostView) : Type 0 where
   pub d : Device
   pub is : device_in script ≡ Some d
   pub given : MediumState
@@ -119,26 +119,26 @@ pub record IsDriven (script : Script) (before after : HostView) : Type 0 where
   pub log : List Event
   pub open_slots : ℕ
   pub drove : Drove d script given home log open_slots
-  pub works : Works (given ∷ []) (home ∷ []) (given_in log) (back_in log) before after
+  pub works : Works address flash (given ∷ []) (home ∷ []) (given_in log) (back_in log) before after
   pub printed : PrintsWhole (drive_text d.imei log ++ flash_line open_slots) before after
 
 -- Done without a device: nothing was opened, and nothing printed. Done with one: it was driven.
-pub data IsDone (text : List ℕ) (before after : HostView) : Type 0 where
-  idle : (script : Script) → IsDrivable text script → device_in script ≡ None → after.media ≡ before.media → after.wires ≡ before.wires → after.sink ≡ before.sink → IsDone text before after
-  driven : (script : Script) → IsDrivable text script → IsDriven script before after → IsDone text before after
+pub data IsDone (address flash text : List ℕ) (before after : HostView) : Type 0 where
+  idle : (script : Script) → IsDrivable text script → device_in script ≡ None → after.media ≡ before.media → after.wires ≡ before.wires → after.sink ≡ before.sink → IsDone address flash text before after
+  driven : (script : Script) → IsDrivable text script → IsDriven address flash script before after → IsDone address flash text before after
 
 -- ---- a script that wasn't done to its end, or not said to its end
 
--- The script was begun for its device. This holds of the device, of what happened, and of the flash as it was handed out and as it came
--- back; there is none where the host failed to open it.
-pub record OfPlayed (script : Script) (before after : HostView) (P : Device → List Event → List MediumState → List MediumState → Type 0) : Type 0 where
+-- The script was begun for its device. This holds of the device, of what happened, and of the flash of this name as it was handed out and
+-- as it came back; there is none where the host failed to open it.
+pub record OfPlayed (flash : List ℕ) (script : Script) (before after : HostView) (P : Device → List Event → List MediumState → List MediumState → Type 0) : Type 0 where
   pub d : Device
   pub is : device_in script ≡ Some d
   pub given : List MediumState
   pub home : List MediumState
   pub log : List Event
   pub came : CameTo (driver_of d) d.slots script given log
-  pub media : Passes given home before.media after.media
+  pub media : PassesNamed flash given home before.media after.media
   pub holds : P d log given home
 
 -- a whole text was printed, and then a line as far as the sink took it
@@ -196,16 +196,16 @@ abbrev pub SaysFailed : HostView → HostView → Device → List Event → List
 SaysFailed before after d log given home = HasFailed given home × PrintsThen (drive_text d.imei log) (codes "medium fault\n") before after
 
 -- the text is a script that can be driven, and it was begun
-abbrev pub OfDriven : List ℕ → HostView → HostView → (Script → Device → List Event → List MediumState → List MediumState → Type 0) → Type 0
-OfDriven text before after P = (script : Script) × IsDrivable text script × OfPlayed script before after (P script)
+abbrev pub OfDriven : (flash text : List ℕ) → HostView → HostView → (Script → Device → List Event → List MediumState → List MediumState → Type 0) → Type 0
+OfDriven flash text before after P = (script : Script) × IsDrivable text script × OfPlayed flash script before after (P script)
 
--- A script that a host opens by a name, played over a flash and links of that host: 0 it was done, 3 it has a first fault, 4 the text
--- failed, 5 the sink failed on what happened, 6 the flash failed, 7 the host failed to open the text or the flash, or to dial, 8 the
--- flash isn't one of this device, 9 memory ran out.
-pub record RanDrive (word : List ℕ) (status : ℕ) (before after : HostView) : Type 0 where
+-- A script that a host opens by a name, played over the flash of a name and links of an address: 0 it was done, 3 it has a first
+-- fault, 4 the text failed, 5 the sink failed on what happened, 6 the flash failed, 7 the host failed to open the text or the flash, or
+-- to dial, 8 the flash isn't one of this device, 9 memory ran out.
+pub record RanDrive (address flash word : List ℕ) (status : ℕ) (before after : HostView) : Type 0 where
   pub among : (status ≡ 0) ⊎ (status ≡ 3) ⊎ (status ≡ 4) ⊎ (status ≡ 5) ⊎ (status ≡ 6) ⊎ (status ≡ 7) ⊎ (status ≡ 8) ⊎ (status ≡ 9)
   -- 0: the script was read to its end and done
-  pub done : status ≡ 0 → OfOpened word before after (λ text. IsDone text before after)
+  pub done : status ≡ 0 → OfOpened word before after (λ text. IsDone address flash text before after)
   pub sink_steady : status ≡ 0 → SinkSteady before after
   -- 3: it has a first fault, whose line is printed
   pub refused : status ≡ 3 → OfOpened word before after (λ text. IsRefused text before after)
@@ -213,25 +213,25 @@ pub record RanDrive (word : List ℕ) (status : ℕ) (before after : HostView) :
   pub source_cause : status ≡ 4 → after.counts ≡ record before.counts { texts = before.counts.texts + 1 }
   pub source_line : status ≡ 4 → Prints (codes "source fault\n") before after
   -- 5: the sink failed on what happened
-  pub cut_off : status ≡ 5 → OfOpened word before after (λ text. OfDriven text before after (λ script. IsCutOff script before after))
+  pub cut_off : status ≡ 5 → OfOpened word before after (λ text. OfDriven flash text before after (λ script. IsCutOff script before after))
   pub sink_cause : status ≡ 5 → SinkFailed before after
   -- 6: the flash failed, which the host has counted
-  pub medium_fault : status ≡ 6 → OfOpened word before after (λ text. OfDriven text before after (λ script. SaysFailed before after))
+  pub medium_fault : status ≡ 6 → OfOpened word before after (λ text. OfDriven flash text before after (λ script. SaysFailed before after))
   pub medium_cause : status ≡ 6 → after.counts ≡ record before.counts { media = before.counts.media + 1 }
   -- 7: the host failed to open the text or the flash, or to dial, which it has counted
   pub host_fault : status ≡ 7 → (OpensNothing before after × Prints (codes "host fault\n") before after)
-      ⊎ OfOpened word before after (λ text. OfDriven text before after (λ script. Says (codes "host fault\n") before after))
+      ⊎ OfOpened word before after (λ text. OfDriven flash text before after (λ script. Says (codes "host fault\n") before after))
   pub host_cause : status ≡ 7 → after.counts.host ≡ before.counts.host + 1
   -- 8: the flash is refused
-  pub refused_flash : status ≡ 8 → OfOpened word before after (λ text. OfDriven text before after (λ script. SaysRefusal script before after))
+  pub refused_flash : status ≡ 8 → OfOpened word before after (λ text. OfDriven flash text before after (λ script. SaysRefusal script before after))
   -- 9: memory ran out before the script was begun, or after
   pub no_memory : status ≡ 9 → Prints (codes "no memory\n") before after
-      ⊎ OfOpened word before after (λ text. OfDriven text before after (λ script. Says (codes "no memory\n") before after))
+      ⊎ OfOpened word before after (λ text. OfDriven flash text before after (λ script. Says (codes "no memory\n") before after))
   -- what was handed out came back: the text, which was read to its end where it was played, the flash and the links
   pub returned : status ≢ 7 → IsReturned (λ read. status ≢ 3 → status ≢ 4 → status ≢ 9 → IsAtEnd read.left) before after
   pub returned_or_none : status ≡ 7 → OpensNothing before after ⊎ IsReturned (λ read. IsAtEnd read.left) before after
-  pub media_back : AllBack before.media after.media
-  pub wires_back : AllBack before.wires after.wires
+  pub media_back : AllBack flash before.media after.media
+  pub wires_back : AllBack address before.wires after.wires
   -- what else the host counts and keeps
   pub texts_before : status ≢ 4 → after.counts.texts ≡ before.counts.texts
   pub host_before : status ≢ 7 → after.counts.host ≡ before.counts.host

@@ -31,48 +31,48 @@ pub record EndsEarly (s : Stop) (status : ℕ) (before after : HostView) : Type 
   pub no_memory : status ≡ 9 → Prints (codes "no memory\n") before after
   pub others : after ≡ record before { sink = after.sink }
 
--- A drive ended before its script, on this flash.
-pub record StopsOn (s : Stop) (d : Driver) (slots : ℕ) (script : Script) (given home : MediumState) (before after : HostView) : Type 0 where
-  pub halts : Halts (λ log now. CameTo d slots script (given ∷ []) log) s d.imei slots before after given home
+-- A drive ended before its script, on this flash and links of this address.
+pub record StopsOn (address : List ℕ) (s : Stop) (d : Driver) (slots : ℕ) (script : Script) (given home : MediumState) (before after : HostView) : Type 0 where
+  pub halts : Halts address (λ log now. CameTo d slots script (given ∷ []) log) s d.imei slots before after given home
   pub spent : s ≡ stop.Sequence → IsSpent d slots script given halts.log
 
--- A script was driven on a flash and links of a host: 0 it was done, 5 the sink failed on what happened, 6 the flash failed, 7 the
--- host failed to open the flash or to dial, 8 the flash isn't one of this device, 9 memory ran out.
-pub record Drives (script : Script) (status : ℕ) (before after : HostView) : Type 0 where
+-- A script was driven on the flash of this name and links of this address: 0 it was done, 5 the sink failed on what happened, 6 the
+-- flash failed, 7 the host failed to open the flash or to dial, 8 the flash isn't one of this device, 9 memory ran out.
+pub record Drives (address flash : List ℕ) (script : Script) (status : ℕ) (before after : HostView) : Type 0 where
   pub among : (status ≡ 0) ⊎ (status ≡ 5) ⊎ (status ≡ 6) ⊎ (status ≡ 7) ⊎ (status ≡ 8) ⊎ (status ≡ 9)
-  pub done : status ≡ 0 → IsDriven script before after
+  pub done : status ≡ 0 → IsDriven address flash script before after
   pub sink_steady : status ≡ 0 → SinkSteady before after
-  pub cut_off : status ≡ 5 → OfPlayed script before after (IsCutOff script before after)
+  pub cut_off : status ≡ 5 → OfPlayed flash script before after (IsCutOff script before after)
   pub sink_cause : status ≡ 5 → SinkFailed before after
-  pub medium_fault : status ≡ 6 → OfPlayed script before after (SaysFailed before after)
+  pub medium_fault : status ≡ 6 → OfPlayed flash script before after (SaysFailed before after)
   pub medium_cause : status ≡ 6 → after.counts ≡ record before.counts { media = before.counts.media + 1 }
-  pub host_fault : status ≡ 7 → OfPlayed script before after (Says (codes "host fault\n") before after)
+  pub host_fault : status ≡ 7 → OfPlayed flash script before after (Says (codes "host fault\n") before after)
   pub host_cause : status ≡ 7 → after.counts.host ≡ before.counts.host + 1
-  pub refused_flash : status ≡ 8 → OfPlayed script before after (SaysRefusal script before after)
-  pub no_memory : status ≡ 9 → OfPlayed script before after (Says (codes "no memory\n") before after)
-  pub media_back : AllBack before.media after.media
-  pub wires_back : AllBack before.wires after.wires
+  pub refused_flash : status ≡ 8 → OfPlayed flash script before after (SaysRefusal script before after)
+  pub no_memory : status ≡ 9 → OfPlayed flash script before after (Says (codes "no memory\n") before after)
+  pub media_back : AllBack flash before.media after.media
+  pub wires_back : AllBack address before.wires after.wires
   pub texts_before : after.counts.texts ≡ before.counts.texts
   pub host_before : status ≢ 7 → after.counts.host ≡ before.counts.host
   pub doors_before : after.counts.doors ≡ before.counts.doors
   pub others : after ≡ record before { counts = after.counts; sink = after.sink; media = after.media; wires = after.wires }
 
 -- A text was judged as a script to drive by, and driven: as above, and 3 it has a first fault.
-pub record DrivesText (text : List ℕ) (status : ℕ) (before after : HostView) : Type 0 where
+pub record DrivesText (address flash text : List ℕ) (status : ℕ) (before after : HostView) : Type 0 where
   pub among : (status ≡ 0) ⊎ (status ≡ 3) ⊎ (status ≡ 5) ⊎ (status ≡ 6) ⊎ (status ≡ 7) ⊎ (status ≡ 8) ⊎ (status ≡ 9)
-  pub done : status ≡ 0 → IsDone text before after
+  pub done : status ≡ 0 → IsDone address flash text before after
   pub sink_steady : status ≡ 0 → SinkSteady before after
   pub refused : status ≡ 3 → IsRefused text before after
-  pub cut_off : status ≡ 5 → OfDriven text before after (λ script. IsCutOff script before after)
+  pub cut_off : status ≡ 5 → OfDriven flash text before after (λ script. IsCutOff script before after)
   pub sink_cause : status ≡ 5 → SinkFailed before after
-  pub medium_fault : status ≡ 6 → OfDriven text before after (λ script. SaysFailed before after)
+  pub medium_fault : status ≡ 6 → OfDriven flash text before after (λ script. SaysFailed before after)
   pub medium_cause : status ≡ 6 → after.counts ≡ record before.counts { media = before.counts.media + 1 }
-  pub host_fault : status ≡ 7 → OfDriven text before after (λ script. Says (codes "host fault\n") before after)
+  pub host_fault : status ≡ 7 → OfDriven flash text before after (λ script. Says (codes "host fault\n") before after)
   pub host_cause : status ≡ 7 → after.counts.host ≡ before.counts.host + 1
-  pub refused_flash : status ≡ 8 → OfDriven text before after (λ script. SaysRefusal script before after)
-  pub no_memory : status ≡ 9 → Prints (codes "no memory\n") before after ⊎ OfDriven text before after (λ script. Says (codes "no memory\n") before after)
-  pub media_back : AllBack before.media after.media
-  pub wires_back : AllBack before.wires after.wires
+  pub refused_flash : status ≡ 8 → OfDriven flash text before after (λ script. SaysRefusal script before after)
+  pub no_memory : status ≡ 9 → Prints (codes "no memory\n") before after ⊎ OfDriven flash text before after (λ script. Says (codes "no memory\n") before after)
+  pub media_back : AllBack flash before.media after.media
+  pub wires_back : AllBack address before.wires after.wires
   pub texts_before : after.counts.texts ≡ before.counts.texts
   pub host_before : status ≢ 7 → after.counts.host ≡ before.counts.host
   pub doors_before : after.counts.doors ≡ before.counts.doors

@@ -9,15 +9,15 @@ use Rattle.fmb_drive.specs.Log.{Event, drive_text}
 use Rattle.fmb_drive.specs.declared.stop.Stop.{Stop}
 use Rattle.fmb_drive.specs.declared.stop.Stop.TheVariants as stop
 use Rattle.fmb_host.specs.Host.{HostView}
-use Rattle.fmb_host.specs.Stocks.{Passes}
+use Rattle.fmb_host.specs.Stocks.{PassesNamed}
 use Rattle.fmb_io.specs.Printed.{PrintsFront, PrintsWhole, SinkFailed, SinkSteady}
 use Rattle.links.specs.Links.{LinkState}
 use Rattle.medium_model.specs.CallsLeft.{unlimited}
 use Rattle.medium_model.specs.State.{IfTold, MediumState}
 
 -- A drive ended early, when this had happened and the ring was this one. What had happened was printed, to its end unless the sink
--- failed; the links that were handed out came back; and the stop has its cause. The flash has so many slots.
-pub record Halts (P : List Event → RingView → Type 0) (s : Stop) (imei slots : ℕ) (before after : HostView) (old new : MediumState) : Type 0 where
+-- failed; the links of this address that were handed out came back; and the stop has its cause. It is a flash of N slots.
+pub record Halts (address : List ℕ) (P : List Event → RingView → Type 0) (s : Stop) (imei slots : ℕ) (before after : HostView) (old new : MediumState) : Type 0 where
   pub log : List Event
   pub now : RingView
   pub holds : P log now
@@ -27,7 +27,7 @@ pub record Halts (P : List Event → RingView → Type 0) (s : Stop) (imei slots
   pub links : List LinkState
   pub ends : List LinkState
   pub same_count : length ends ≡ length links
-  pub wires : Passes links ends before.wires after.wires
+  pub wires : PassesNamed address links ends before.wires after.wires
   pub sink_fault : s ≡ stop.SinkFault → SinkFailed before after
   pub medium_fault : s ≡ stop.MediumFault → Rose old.faults new.faults × (old.left ≡ unlimited → ⊥)
   pub host_fault : s ≡ stop.HostFault → after.counts ≡ record before.counts { host = before.counts.host + 1 }

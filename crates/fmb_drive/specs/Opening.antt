@@ -29,7 +29,7 @@ stop_again again.MediumFault = stop.MediumFault
 stop_again (again.WrongSize got wanted) = stop.Size got wanted
 stop_again (again.BadSlot slot) = stop.Slot slot
 
--- why a flash of so many slots isn't opened, as it was and is
+-- why a flash of N slots isn't opened, as it was and is
 pub record RefusesFlash (s : Stop) (slots : ℕ) (old new : MediumState) : Type 0 where
   pub medium_fault : s ≡ stop.MediumFault → Rose old.faults new.faults × (old.left ≡ unlimited → ⊥)
   pub size : (got wanted : ℕ) → s ≡ stop.Size got wanted → IfTold new.content (λ c. Refuses slots c.reads (again.WrongSize got wanted))

@@ -7,7 +7,7 @@ use Rattle.flash_ring.specs.Ring.{RingView}
 use Rattle.fmb_drive.specs.Log.{Connection, Event, back_in, drive_text, given_in, round_line}
 use Rattle.fmb_drive.specs.Runs.{Driver, DoesLine, IsConnected, MayGiveUp, PowersUp, Runs, Stage, Stores, WhereOwn}
 use Rattle.fmb_host.specs.Host.{HostView}
-use Rattle.fmb_host.specs.Stocks.{Passes}
+use Rattle.fmb_host.specs.Stocks.{PassesNamed}
 use Rattle.fmb_io.specs.Printed.{PrintsWhole, SinkSteady}
 use Rattle.medium_model.specs.State.{IsRun, MediumState}
 use Rattle.tracker_session.specs.Trackers.{TrackerView}
@@ -43,8 +43,8 @@ pub record StoresAll (imei : ℕ) (records : List Record) (a b : RingView) (befo
   pub stays : StaysUp a b
   pub others : after ≡ record before { sink = after.sink }
 
--- a connection was made, and its end was printed
-pub record MakesOne (imei : ℕ) (order : Order) (at limit : ℕ) (a b : RingView) (x y : HostView) : Type 0 where
+-- a connection to this address was made, and its end was printed
+pub record MakesOne (address : List ℕ) (imei : ℕ) (order : Order) (at limit : ℕ) (a b : RingView) (x y : HostView) : Type 0 where
   pub c : Connection
   pub is : IsConnected imei order c
   pub line : c.line ≡ at
@@ -53,7 +53,7 @@ pub record MakesOne (imei : ℕ) (order : Order) (at limit : ℕ) (a b : RingVie
   pub after : b ≡ c.after
   pub printed : PrintsWhole (round_line at c.end) x y
   pub steady : SinkSteady x y
-  pub wires : Passes (c.given ∷ []) (c.back ∷ []) x.wires y.wires
+  pub wires : PassesNamed address (c.given ∷ []) (c.back ∷ []) x.wires y.wires
   pub stays : StaysUp a b
   pub others : y ≡ record x { sink = y.sink; wires = y.wires }
 
@@ -61,33 +61,33 @@ pub record MakesOne (imei : ℕ) (order : Order) (at limit : ℕ) (a b : RingVie
 abbrev pub MayPowerUp : Bool → Stage → Stage → Type 0
 MayPowerUp own a b = WhereOwn own (PowersUp a b) (b ≡ a)
 
--- a line was done
-pub record DoesOne (d : Driver) (line : ℕ) (it : ScriptLine) (a b : Stage) (before after : HostView) : Type 0 where
+-- a line was done, over links of this address
+pub record DoesOne (address : List ℕ) (d : Driver) (line : ℕ) (it : ScriptLine) (a b : Stage) (before after : HostView) : Type 0 where
   pub log : List Event
   pub does : DoesLine d line it a log b
   pub printed : PrintsWhole (drive_text d.imei log) before after
   pub steady : SinkSteady before after
-  pub wires : Passes (given_in log) (back_in log) before.wires after.wires
+  pub wires : PassesNamed address (given_in log) (back_in log) before.wires after.wires
   pub stays : StaysUp a.ring b.ring
   pub others : after ≡ record before { sink = after.sink; wires = after.wires }
 
--- some lines were done
-pub record DoesAll (d : Driver) (lines : Script) (a b : Stage) (before after : HostView) : Type 0 where
+-- some lines were done, over links of this address
+pub record DoesAll (address : List ℕ) (d : Driver) (lines : Script) (a b : Stage) (before after : HostView) : Type 0 where
   pub log : List Event
   pub runs : Runs d lines a log b
   pub printed : PrintsWhole (drive_text d.imei log) before after
   pub steady : SinkSteady before after
-  pub wires : Passes (given_in log) (back_in log) before.wires after.wires
+  pub wires : PassesNamed address (given_in log) (back_in log) before.wires after.wires
   pub stays : StaysUp a.ring b.ring
   pub others : after ≡ record before { sink = after.sink; wires = after.wires }
 
--- A script was done on a flash that was opened and is given back.
-pub record DrovePlain (d : Driver) (slots : ℕ) (script : Script) (given home : MediumState) (count : ℕ) (before after : HostView) : Type 0 where
+-- A script was done over links of this address, on a flash that was opened and is given back.
+pub record DrovePlain (address : List ℕ) (d : Driver) (slots : ℕ) (script : Script) (given home : MediumState) (count : ℕ) (before after : HostView) : Type 0 where
   pub opening : RingView
   pub closing : Stage
   pub opens : Opens slots given opening
   pub first : IsRun given opening.medium ⊥
-  pub does : DoesAll d script (start opening) closing before after
+  pub does : DoesAll address d script (start opening) closing before after
   pub back : home ≡ closing.ring.medium
   pub open_slots : count ≡ length (held_of closing.ring.slots)
   pub durable : IsDurable closing.ring

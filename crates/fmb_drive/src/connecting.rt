@@ -45,8 +45,8 @@ pub(crate) fn connect<H: Host>(
     requires up { tracker.old.ring.down ≡ false }
     requires some { 0 < most }
     requires small { AreSmall (H.view host.old).counts }
-    ensures made { OnOk result (MakesOne tracker.old.imei tracker.old.order line most tracker.old.ring tracker.new.ring (H.view host.old) (H.view host.new)) }
-    ensures stopped { IfErr result (λ stop. Halts (BeginsConnection tracker.old.imei tracker.old.order line most tracker.old.ring) stop tracker.old.imei (length tracker.old.ring.slots) (H.view host.old) (H.view host.new) tracker.old.ring.medium tracker.new.ring.medium) }
+    ensures made { OnOk result (MakesOne address.now tracker.old.imei tracker.old.order line most tracker.old.ring tracker.new.ring (H.view host.old) (H.view host.new)) }
+    ensures stopped { IfErr result (λ stop. Halts address.now (BeginsConnection tracker.old.imei tracker.old.order line most tracker.old.ring) stop tracker.old.imei (length tracker.old.ring.slots) (H.view host.old) (H.view host.new) tracker.old.ring.medium tracker.new.ring.medium) }
     ensures same { IsSameDevice tracker.old tracker.new }
 {
     let Ok(mut link) = host.dial(address) else {

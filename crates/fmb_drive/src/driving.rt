@@ -34,8 +34,8 @@ fn drive_on<H: Host>(
 ) -> (Result<u16, Stop>, H::File)
     requires device { IsDevice device.imei device.slots device.order device.settings script.now }
     requires small { AreSmall (H.view host.old).counts }
-    ensures done { IfOk result.0 (λ open_slots. DrovePlain (driver_by device) device.slots script.now (H.File.state flash) (H.File.state result.1) open_slots (H.view host.old) (H.view host.new)) }
-    ensures stopped { IfErr result.0 (λ stop. StopsOn stop (driver_by device) device.slots script.now (H.File.state flash) (H.File.state result.1) (H.view host.old) (H.view host.new)) }
+    ensures done { IfOk result.0 (λ open_slots. DrovePlain address.now (driver_by device) device.slots script.now (H.File.state flash) (H.File.state result.1) open_slots (H.view host.old) (H.view host.new)) }
+    ensures stopped { IfErr result.0 (λ stop. StopsOn address.now stop (driver_by device) device.slots script.now (H.File.state flash) (H.File.state result.1) (H.view host.old) (H.view host.new)) }
 {
     let Driven {
         imei,
@@ -77,7 +77,7 @@ fn drive_device<H: Host>(
     requires device { IsDevice device.imei device.slots device.order device.settings script.now }
     requires drivable { drive_fault_in script.now ≡ None }
     requires small { AreSmall (H.view host.old).counts }
-    ensures { Drives script.now result (H.view host.old) (H.view host.new) }
+    ensures { Drives address.now flash.now script.now result (H.view host.old) (H.view host.new) }
 {
     let Ok(medium) = host.open_medium(flash) else {
         say(host, b"host fault\n");
@@ -105,7 +105,7 @@ fn refuse<H: Host>(alloc: Global, host: &mut H, line: u32, kind: ScriptFault) ->
 // Judges a text as a script to drive by, and does it.
 fn drive_text<H: Host>(alloc: Global, host: &mut H, address: &str, flash: &str, text: &[u8]) -> u8
     requires { AreSmall (H.view host.old).counts }
-    ensures { DrivesText text.now result (H.view host.old) (H.view host.new) }
+    ensures { DrivesText address.now flash.now text.now result (H.view host.old) (H.view host.new) }
 {
     let script = match read_script(alloc, text) {
         Ok(script) => script,
@@ -125,7 +125,7 @@ fn drive_text<H: Host>(alloc: Global, host: &mut H, address: &str, flash: &str, 
 // Opens the text of a script, and drives by it.
 fn drive_file<H: Host>(alloc: Global, host: &mut H, address: &str, flash: &str, script: &str) -> u8
     requires { AreSmall (H.view host.old).counts }
-    ensures { RanDrive script.now result (H.view host.old) (H.view host.new) }
+    ensures { RanDrive address.now flash.now script.now result (H.view host.old) (H.view host.new) }
 {
     match fetch(alloc, host, script) {
         Ok(text) => drive_text(alloc, host, address, flash, text.as_slice()),
@@ -143,7 +143,7 @@ pub fn run_drive<H: Host>(
     script: &str,
 ) -> u8
     requires { AreSmall (H.view host.old).counts }
-    ensures ran { RanDrive script.now result (H.view host.old) (H.view host.new) }
+    ensures ran { RanDrive address.now flash.now script.now result (H.view host.old) (H.view host.new) }
     ensures refuses { DriveRefuses result (H.view host.old) (H.view host.new) }
     ensures drives { DriveDrives result (H.view host.old) (H.view host.new) }
     ensures spares { DriveSpares result (H.view host.old) }

@@ -1,5 +1,5 @@
 //! What a device does by the lines of its script.
-ghost use Rattle.std.specs.Prelude.{◌≡◌, ◌==◌, ℕ, IfErr, OnOk, false, length};
+ghost use Rattle.std.specs.Prelude.{◌≡◌, ◌==◌, ℕ, List, IfErr, OnOk, false, length};
 ghost use Rattle.acquisition.specs.Elements.{ValuesFit};
 ghost use Rattle.fmb_drive.specs.Halts.{Halts};
 ghost use Rattle.fmb_drive.specs.Opening.{RefusesFlash};
@@ -77,8 +77,8 @@ fn fix_line<H: Host>(
     requires up { tracker.old.ring.down ≡ false }
     requires own { tracker.old.imei ≡ imei.now }
     requires fit { who.now ≡ tracker.old.imei → ValuesFit acquirer.old.settings.ios fix.now.values.items }
-    ensures done { (number : ℕ) → OnOk result (DoesOne (driver tracker.old acquirer.old) number (ScriptLine.Fix who.now fix.now) (stage tracker.old acquirer.old) (stage tracker.new acquirer.new) (H.view host.old) (H.view host.new)) }
-    ensures stopped { (number : ℕ) → IfErr result (λ stop. Halts (BeginsLine (driver tracker.old acquirer.old) number (ScriptLine.Fix who.now fix.now) (stage tracker.old acquirer.old)) stop tracker.old.imei (length tracker.old.ring.slots) (H.view host.old) (H.view host.new) tracker.old.ring.medium tracker.new.ring.medium) }
+    ensures done { (address : List ℕ) (number : ℕ) → OnOk result (DoesOne address (driver tracker.old acquirer.old) number (ScriptLine.Fix who.now fix.now) (stage tracker.old acquirer.old) (stage tracker.new acquirer.new) (H.view host.old) (H.view host.new)) }
+    ensures stopped { (address : List ℕ) (number : ℕ) → IfErr result (λ stop. Halts address (BeginsLine (driver tracker.old acquirer.old) number (ScriptLine.Fix who.now fix.now) (stage tracker.old acquirer.old)) stop tracker.old.imei (length tracker.old.ring.slots) (H.view host.old) (H.view host.new) tracker.old.ring.medium tracker.new.ring.medium) }
     ensures same { IsSameDevice tracker.old tracker.new }
     ensures settings { acquirer.new.settings ≡ acquirer.old.settings }
 {
@@ -104,8 +104,8 @@ fn play_line<H: Host>(
     requires own { tracker.old.imei ≡ imei.now }
     requires small { AreSmall (H.view host.old).counts }
     requires fit { (fix : _) → line.now ≡ ScriptLine.Fix tracker.old.imei fix → ValuesFit acquirer.old.settings.ios fix.values.items }
-    ensures done { OnOk result (DoesOne (driver tracker.old acquirer.old) number line.now (stage tracker.old acquirer.old) (stage tracker.new acquirer.new) (H.view host.old) (H.view host.new)) }
-    ensures stopped { IfErr result (λ stop. Halts (BeginsLine (driver tracker.old acquirer.old) number line.now (stage tracker.old acquirer.old)) stop tracker.old.imei (length tracker.old.ring.slots) (H.view host.old) (H.view host.new) tracker.old.ring.medium tracker.new.ring.medium) }
+    ensures done { OnOk result (DoesOne address.now (driver tracker.old acquirer.old) number line.now (stage tracker.old acquirer.old) (stage tracker.new acquirer.new) (H.view host.old) (H.view host.new)) }
+    ensures stopped { IfErr result (λ stop. Halts address.now (BeginsLine (driver tracker.old acquirer.old) number line.now (stage tracker.old acquirer.old)) stop tracker.old.imei (length tracker.old.ring.slots) (H.view host.old) (H.view host.new) tracker.old.ring.medium tracker.new.ring.medium) }
     ensures same { IsSameDevice tracker.old tracker.new }
     ensures settings { acquirer.new.settings ≡ acquirer.old.settings }
 {
@@ -141,8 +141,8 @@ pub(crate) fn play<H: Host>(
     requires own { tracker.old.imei ≡ imei.now }
     requires small { AreSmall (H.view host.old).counts }
     requires fit { FixesFit tracker.old.imei acquirer.old.settings script.now }
-    ensures done { OnOk result (DoesAll (driver tracker.old acquirer.old) script.now (stage tracker.old acquirer.old) (stage tracker.new acquirer.new) (H.view host.old) (H.view host.new)) }
-    ensures stopped { IfErr result (λ stop. Halts (Begins (driver tracker.old acquirer.old) script.now (stage tracker.old acquirer.old)) stop tracker.old.imei (length tracker.old.ring.slots) (H.view host.old) (H.view host.new) tracker.old.ring.medium tracker.new.ring.medium) }
+    ensures done { OnOk result (DoesAll address.now (driver tracker.old acquirer.old) script.now (stage tracker.old acquirer.old) (stage tracker.new acquirer.new) (H.view host.old) (H.view host.new)) }
+    ensures stopped { IfErr result (λ stop. Halts address.now (Begins (driver tracker.old acquirer.old) script.now (stage tracker.old acquirer.old)) stop tracker.old.imei (length tracker.old.ring.slots) (H.view host.old) (H.view host.new) tracker.old.ring.medium tracker.new.ring.medium) }
 {
     for i in 0..script.len() {
         let line = script.line_at(i);

@@ -1,4 +1,4 @@
-ghost use Rattle.std.specs.Prelude.{◌≡◌, None, IfErr, OnOk, false, length};
+ghost use Rattle.std.specs.Prelude.{◌≡◌, ℕ, List, None, IfErr, OnOk, false, length};
 ghost use Rattle.std.specs.List.{All};
 ghost use Rattle.avl_values.specs.Viewed.{record_of, records_viewed};
 ghost use Rattle.fmb_drive.specs.Halts.{Halts};
@@ -48,7 +48,7 @@ fn print_lost<H: Host, M: Medium>(
     requires own { tracker.now.imei ≡ imei.now }
     ensures printed { OnOk result (PrintsWhole (drive_text tracker.now.imei (gives_up tracker.now.ring)) (H.view host.old) (H.view host.new)) }
     ensures steady { OnOk result (SinkSteady (H.view host.old) (H.view host.new)) }
-    ensures stopped { IfErr result (λ stop. Halts (Gives tracker.now.ring) stop tracker.now.imei (length tracker.now.ring.slots) (H.view host.old) (H.view host.new) tracker.now.ring.medium tracker.now.ring.medium) }
+    ensures stopped { (address : List ℕ) → IfErr result (λ stop. Halts address (Gives tracker.now.ring) stop tracker.now.imei (length tracker.now.ring.slots) (H.view host.old) (H.view host.new) tracker.now.ring.medium tracker.now.ring.medium) }
     ensures others { H.view host.new ≡ record (H.view host.old) { sink = (H.view host.new).sink } }
 {
     let Some(oldest) = tracker.ring().oldest_if_full() else {
@@ -77,7 +77,7 @@ pub(crate) fn keep<H: Host, M: Medium>(
     ensures kept { OnOk result (Keeps (record_of rec.now) false tracker.old.ring tracker.new.ring) }
     ensures printed { OnOk result (PrintsWhole (drive_text tracker.old.imei (gives_up tracker.old.ring)) (H.view host.old) (H.view host.new)) }
     ensures steady { OnOk result (SinkSteady (H.view host.old) (H.view host.new)) }
-    ensures stopped { IfErr result (λ stop. Halts (Gives tracker.old.ring) stop tracker.old.imei (length tracker.old.ring.slots) (H.view host.old) (H.view host.new) tracker.old.ring.medium tracker.new.ring.medium) }
+    ensures stopped { (address : List ℕ) → IfErr result (λ stop. Halts address (Gives tracker.old.ring) stop tracker.old.imei (length tracker.old.ring.slots) (H.view host.old) (H.view host.new) tracker.old.ring.medium tracker.new.ring.medium) }
     ensures same { IsSameDevice tracker.old tracker.new }
     ensures others { H.view host.new ≡ record (H.view host.old) { sink = (H.view host.new).sink } }
 {
@@ -105,7 +105,7 @@ pub(crate) fn keep_all<H: Host, M: Medium>(
     requires own { tracker.old.imei ≡ imei.now }
     requires are_records { All (λ rec. IsSomeRecord rec.codec rec.bytes.items) records.now }
     ensures stored { OnOk result (StoresAll tracker.old.imei (records_viewed records.now) tracker.old.ring tracker.new.ring (H.view host.old) (H.view host.new)) }
-    ensures stopped { IfErr result (λ stop. Halts (BeginsStores (records_viewed records.now) tracker.old.ring) stop tracker.old.imei (length tracker.old.ring.slots) (H.view host.old) (H.view host.new) tracker.old.ring.medium tracker.new.ring.medium) }
+    ensures stopped { (address : List ℕ) → IfErr result (λ stop. Halts address (BeginsStores (records_viewed records.now) tracker.old.ring) stop tracker.old.imei (length tracker.old.ring.slots) (H.view host.old) (H.view host.new) tracker.old.ring.medium tracker.new.ring.medium) }
     ensures same { IsSameDevice tracker.old tracker.new }
     ensures others { H.view host.new ≡ record (H.view host.old) { sink = (H.view host.new).sink } }
 {

@@ -5,7 +5,7 @@ use Rattle.fmb_drive.proofs.playing.play.Given as goal
 
 abbrev pub invariant-loop-i : goal.invariant-loop-i
 invariant-loop-i g l = record {
-  done : DoesAll (driver l.initial.tracker l.initial.acquirer) (take l.i l.script) (stage l.initial.tracker l.initial.acquirer) (stage l.tracker l.acquirer) (g.H.Host.view l.initial.host) (g.H.Host.view l.host);
+  done : DoesAll l.address (driver l.initial.tracker l.initial.acquirer) (take l.i l.script) (stage l.initial.tracker l.initial.acquirer) (stage l.tracker l.acquirer) (g.H.Host.view l.initial.host) (g.H.Host.view l.host);
   same : IsSameDevice l.initial.tracker l.tracker;
   settings : l.acquirer.settings ≡ l.initial.acquirer.settings;
 }

@@ -10,8 +10,8 @@ loop-rec-init g c = record { stored = stores_none _ _ _ c.requires.up; same = re
 pub returns-in_err-keep-clause-stopped : goal.returns-in_err-keep-clause-stopped
 returns-in_err-keep-clause-stopped g c =
     let inv = c.loop-rec.invariant in
-    handed_on c.from_residual.result c.in_err-keep.field-0.0 _ c.from_residual.ensures.1
-    (all_halt _ _ _ c.args.records.now c.loop-rec.rec-index _ _ _ _ _ _ inv.stored inv.same.imei c.in_err-keep.ensures.stopped)
+    λ address. handed_on c.from_residual.result c.in_err-keep.field-0.0 _ c.from_residual.ensures.1
+    (all_halt address _ _ _ c.args.records.now c.loop-rec.rec-index _ _ _ _ _ _ inv.stored inv.same.imei (c.in_err-keep.ensures.stopped address))
 
 pub loop-rec-preserved : goal.loop-rec-preserved
 loop-rec-preserved g c =
