@@ -85,11 +85,11 @@ impl<W: Write + Drop> Host for System<W> {
       counts = h.counts;
       kept = h.kept;
       sink = record { written = None; faults = h.out.faults };
-      texts = record { coming = None; returns = None };
-      media = record { coming = None; returns = None };
-      wires = record { coming = None; returns = None };
-      gates = record { coming = None; returns = None };
-      benches = record { coming = None; returns = None };
+      texts = record { coming = None; returns = None; asked = None };
+      media = record { coming = None; returns = None; asked = None };
+      wires = record { coming = None; returns = None; asked = None };
+      gates = record { coming = None; returns = None; asked = None };
+      benches = record { coming = None; returns = None; asked = None };
     } };
 
     ghost with_sink = { λ h other. record h { out = other } };

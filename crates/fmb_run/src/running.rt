@@ -70,12 +70,12 @@ where
     ensures show_shows { IfShow (words_of (map string_bytes words.now)) (λ file. ShowShows result (H.view host.old) (H.view host.new)) }
 
     // a server, in the same way
-    ensures serve { IfServe (words_of (map string_bytes words.now)) (λ asked. RanServe H.Gate.L.state H.Gate.L.follows (knows (known_of asked.devices)) asked.workers asked.sessions result (H.view host.old) (H.view host.new) ⊎ RanOut result (H.view host.old) (H.view host.new)) }
+    ensures serve { IfServe (words_of (map string_bytes words.now)) (λ asked. RanServe H.Gate.L.state H.Gate.L.follows (knows (known_of asked.devices)) asked.address asked.archive asked.workers asked.sessions result (H.view host.old) (H.view host.new) ⊎ RanOut result (H.view host.old) (H.view host.new)) }
     ensures serve_refuses { IfServe (words_of (map string_bytes words.now)) (λ asked. ServeRefuses result (H.view host.old) (H.view host.new)) }
     ensures serve_serves { IfServe (words_of (map string_bytes words.now)) (λ asked. ServeServes result (H.view host.old) (H.view host.new)) }
 
     // a device that is driven, in the same way
-    ensures drive { IfDrive (words_of (map string_bytes words.now)) (λ asked. RanDrive asked.script result (H.view host.old) (H.view host.new) ⊎ RanOut result (H.view host.old) (H.view host.new)) }
+    ensures drive { IfDrive (words_of (map string_bytes words.now)) (λ asked. RanDrive asked.address asked.flash asked.script result (H.view host.old) (H.view host.new) ⊎ RanOut result (H.view host.old) (H.view host.new)) }
     ensures drive_refuses { IfDrive (words_of (map string_bytes words.now)) (λ asked. DriveRefuses result (H.view host.old) (H.view host.new)) }
     ensures drive_drives { IfDrive (words_of (map string_bytes words.now)) (λ asked. DriveDrives result (H.view host.old) (H.view host.new)) }
     ensures drive_spares { IfDrive (words_of (map string_bytes words.now)) (λ asked. DriveSpares result (H.view host.old)) }

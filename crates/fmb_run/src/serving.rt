@@ -50,7 +50,7 @@ where
     <H::Gate as Door>::L: Send,
     requires small { AreSmall (H.view host.old).counts }
     requires ranges { IsInRange words.now }
-    ensures ran { RanServe H.Gate.L.state H.Gate.L.follows (knows (known_of words.now.devices.items)) words.now.workers words.now.sessions result (H.view host.old) (H.view host.new) ⊎ RanOut result (H.view host.old) (H.view host.new) }
+    ensures ran { RanServe H.Gate.L.state H.Gate.L.follows (knows (known_of words.now.devices.items)) words.now.address.now words.now.archive.now words.now.workers words.now.sessions result (H.view host.old) (H.view host.new) ⊎ RanOut result (H.view host.old) (H.view host.new) }
     ensures refuses { ServeRefuses result (H.view host.old) (H.view host.new) }
     ensures serves { ServeServes result (H.view host.old) (H.view host.new) }
 {
