@@ -5,6 +5,8 @@
 #![tactic(auto)]
 
 mod file;
+#[cfg(test)]
+mod loopback;
 mod output;
 mod system;
 #[cfg(test)]
