@@ -11,7 +11,7 @@ use Rattle.fmb_io.specs.Printed.{Prints, PrintsFront, PrintsWhole, SinkFailed, S
 use Rattle.medium_model.specs.State.{MediumState}
 use Rattle.trial_model.specs.Script.{Script}
 
--- a script was done, with so many open slots at its end
+-- a script was done, with this number of open slots at its end
 pub record EndsWell (count status : ℕ) (before after : HostView) : Type 0 where
   pub among : (status ≡ 0) ⊎ (status ≡ 5) ⊎ (status ≡ 9)
   pub printed : status ≡ 0 → PrintsWhole (flash_line count) before after

@@ -82,7 +82,7 @@ pub record IsConnected (imei : ℕ) (order : Order) (c : Connection) : Type 0 wh
   pub durable : IsDurable c.after
   pub run : IsRun c.before.medium c.after.medium ⊥
 
--- a `round` or `drain` line with so many batches at most
+-- a `round` or `drain` line with at most this number of batches
 pub record Connects (d : Driver) (at limit : ℕ) (a : Stage) (events : List Event) (b : Stage) : Type 0 where
   pub c : Connection
   pub is : IsConnected d.imei d.order c

@@ -33,7 +33,7 @@ fn print_end<H: Host>(alloc: Global, host: &mut H, line: u32, end: RoundEnd) -> 
     }
 }
 
-/// Makes one connection with at most so many batches, and prints how it ended.
+/// Makes one connection with at most this number of batches, and prints how it ended.
 pub(crate) fn connect<H: Host>(
     alloc: Global,
     host: &mut H,
