@@ -12,14 +12,14 @@ TIMES = 100
 
 
 def spent(records, sends):
-    """Seconds for so many records, kept and sent, or kept alone."""
+    """Seconds for this number of records, kept and sent, or kept alone."""
     took = best([PROGRAM, "talks", str(records), str(TIMES), str(sends)])
     assert took.said == f"{records} {-(-records // 42) * sends}\n", took
     return took.busy
 
 
 def rounds(records):
-    """Seconds for the rounds that send so many records."""
+    """Seconds for the rounds that send this number of records."""
     return spent(records, 1) - spent(records, 0)
 
 

@@ -12,7 +12,7 @@ KINDS = ("fixes with 32 values", "fixes without a value", "late lines to 64 conn
 
 
 def spent(kind, size, rounds):
-    """What the rounds took over a script of so many bytes, and its lines."""
+    """What the rounds took over a script of this size in bytes, and its lines."""
     took = best([PROGRAM, "scripts", str(kind), str(size), str(rounds)])
     return took, int(took.said.split()[0])
 

@@ -12,7 +12,7 @@ RECORDS, PACKET, PIECE = 250_000, 40, 1460
 
 
 def spent(records, new):
-    """Seconds for so many records, and the stream's bytes."""
+    """Seconds for this number of records, and the stream's bytes."""
     took = best([PROGRAM, "sessions", str(records // PACKET), str(PIECE), str(new)])
     size, counted = map(int, took.said.split())
     assert counted == records, took

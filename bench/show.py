@@ -38,7 +38,7 @@ def frame(first):
 
 
 def capture(size):
-    """As many lines as fit into so many bytes."""
+    """As many lines as fit into this number of bytes."""
     lines, length = [], 0
     while True:
         line = "frames " + frame(len(lines) * RECORDS).hex() + "\n"

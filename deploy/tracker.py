@@ -38,7 +38,7 @@ def frame(times):
 
 
 def whole(link, size):
-    """So many bytes of a link; fewer only where it ended."""
+    """This number of bytes of a link; fewer only where it ended."""
     got = b""
     while len(got) < size:
         piece = link.recv(size - len(got))
