@@ -32,6 +32,8 @@ fn ample_memory_is_enough(rt: HostRuntime) {
     assert_eq!(rt; host.sink().written(), b"hell".as_slice());
 }
 
+// What follows takes a host that is lent, and holds one thing at a time, so that its proof stays small.
+
 fn flash(host: &mut MemoryHost) -> Option<MemoryMedium> {
     if host.counts().host > 9 {
         return None;
@@ -39,11 +41,34 @@ fn flash(host: &mut MemoryHost) -> Option<MemoryMedium> {
     host.open_medium("flash").ok()
 }
 
-fn link(host: &mut MemoryHost) -> Option<MemoryLink> {
-    if host.counts().host > 9 {
-        return None;
+fn flash_back(host: &mut MemoryHost, medium: MemoryMedium) {
+    if host.counts().media < 9 {
+        host.medium_back(medium);
     }
-    host.dial("here").ok()
+}
+
+/// Opens a medium and gives it back; whether its first call failed.
+fn uses_flash(host: &mut MemoryHost) -> bool {
+    let Some(mut medium) = flash(host) else {
+        return false;
+    };
+    let failed = medium.len().is_err();
+    flash_back(host, medium);
+    failed
+}
+
+/// Dials, and gives the link back.
+fn uses_link(host: &mut MemoryHost) -> bool {
+    if host.counts().host > 9 {
+        return false;
+    }
+    match host.dial("here") {
+        Ok(link) => {
+            host.wire_back(link);
+            true
+        }
+        Err(_) => false,
+    }
 }
 
 fn door(host: &mut MemoryHost) -> Option<MemoryDoor> {
@@ -53,13 +78,20 @@ fn door(host: &mut MemoryHost) -> Option<MemoryDoor> {
     host.door("here", 1).ok()
 }
 
-fn give_back(host: &mut MemoryHost, medium: MemoryMedium, link: MemoryLink, door: MemoryDoor) {
-    if host.counts().media > 9 || host.counts().doors > 9 {
-        return;
+fn door_back(host: &mut MemoryHost, door: MemoryDoor) {
+    if host.counts().doors < 9 {
+        host.door_back(door);
     }
-    host.medium_back(medium);
-    host.wire_back(link);
-    host.door_back(door);
+}
+
+/// Has a door and gives it back; whether its first accept failed.
+fn uses_door(host: &mut MemoryHost) -> bool {
+    let Some(mut gate) = door(host) else {
+        return false;
+    };
+    let failed = gate.accept().is_err();
+    door_back(host, gate);
+    failed
 }
 
 /// A door without links.
@@ -73,16 +105,31 @@ fn new_door(alloc: Global) -> Option<MemoryDoor>
     }
 }
 
+fn add_medium(alloc: Global, host: &mut MemoryHost) -> Option<()> {
+    host.add_medium(MemoryMedium::new(alloc, b"abc", &[0]).ok()?)
+        .ok()
+}
+
+fn add_link(alloc: Global, host: &mut MemoryHost) -> Option<()> {
+    host.add_link(MemoryLink::new(alloc, b"ab", 1, 0, &[]).ok()?)
+        .ok()
+}
+
+fn add_door(alloc: Global, host: &mut MemoryHost) -> Option<()> {
+    host.add_door(new_door(alloc)?).ok()
+}
+
+fn fill(alloc: Global, host: &mut MemoryHost) -> Option<()> {
+    add_medium(alloc, host)?;
+    add_link(alloc, host)?;
+    add_door(alloc, host)
+}
+
 /// A host with a medium that fails at its first call, a link, and a door without links. Its call 2 fails.
 fn filled(alloc: Global) -> Option<MemoryHost> {
     let sink = MemorySink::new(alloc, 4, &[]).ok()?;
     let mut host = MemoryHost::new(alloc, sink, &[2]).ok()?;
-    let medium = MemoryMedium::new(alloc, b"abc", &[0]).ok()?;
-    let link = MemoryLink::new(alloc, b"ab", 1, 0, &[]).ok()?;
-    let door = new_door(alloc)?;
-    host.add_medium(medium).ok()?;
-    host.add_link(link).ok()?;
-    host.add_door(door).ok()?;
+    fill(alloc, &mut host)?;
     Some(host)
 }
 
@@ -90,14 +137,11 @@ fn filled(alloc: Global) -> Option<MemoryHost> {
 #[test]
 fn each_kind_in_its_order(rt: HostRuntime) {
     let mut host = filled(rt.alloc()).expect(&rt, "a host");
-    let mut medium = flash(&mut host).expect(&rt, "a medium");
-    let first = link(&mut host).expect(&rt, "a link");
-    assert!(rt; door(&mut host).is_none(), "call 2 fails");
-    let mut gate = door(&mut host).expect(&rt, "a door");
-    assert!(rt; link(&mut host).is_none(), "no link is left");
-    assert!(rt; medium.len().is_err(), "its call 0 fails");
-    assert!(rt; gate.accept().is_err(), "it has no link");
-    give_back(&mut host, medium, first, gate);
+    assert!(rt; uses_flash(&mut host), "its call 0 fails");
+    assert!(rt; uses_link(&mut host), "a link");
+    assert!(rt; !uses_door(&mut host), "call 2 fails");
+    assert!(rt; uses_door(&mut host), "it has no link");
+    assert!(rt; !uses_link(&mut host), "no link is left");
     let counts = Counts {
         host: 2,
         texts: 0,
@@ -110,10 +154,19 @@ fn each_kind_in_its_order(rt: HostRuntime) {
     assert_eq!(rt; host.doors_back().len(), 1);
 }
 
+fn uses_bench(host: &mut MemoryHost) -> bool {
+    match host.bench() {
+        Ok(bench) => {
+            host.bench_back(bench);
+            true
+        }
+        Err(_) => false,
+    }
+}
+
 #[test]
 fn a_bench_comes_back(rt: HostRuntime) {
     let mut host = filled(rt.alloc()).expect(&rt, "a host");
-    let bench = host.bench().ok().expect(&rt, "a bench");
-    host.bench_back(bench);
+    assert!(rt; uses_bench(&mut host), "a bench");
     assert_eq!(rt; host.benches_back().len(), 1);
 }
