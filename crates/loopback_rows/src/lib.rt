@@ -1,0 +1,14 @@
+//! Devices and a server in one process, over TCP on this machine: one round, and many connections of which some break off. It has tests
+//! alone, so that the crates below aren't proved once more for them.
+#![tactic(auto)]
+
+#[cfg(test)]
+mod connections;
+#[cfg(test)]
+mod device;
+#[cfg(test)]
+mod plans;
+#[cfg(test)]
+mod round;
+#[cfg(test)]
+mod server;
