@@ -52,7 +52,7 @@ fn batch(first: u64) -> u8 {
     }
 }
 
-// The data body of so many records from this one on.
+// The data body of this many records from this one on.
 fn body(alloc: Global, first: u64, count: u8) -> Option<Vec<u8>> {
     let mut bytes = Vec::from_slice(alloc, &[8, count]).ok()?;
     for i in 0..count {
@@ -92,17 +92,30 @@ fn hear_count(link: &mut Stream) -> Option<u32> {
     Some(u32::from_be_bytes(bytes))
 }
 
-// A link on which this device has logged in.
-fn logged_in(rt: &HostRuntime, address: SocketAddr, imei: Imei) -> Option<Stream> {
+// A link on which this device's login was sent.
+fn with_login(rt: &HostRuntime, address: SocketAddr, imei: Imei) -> Option<Stream> {
     let stream = TcpStream::connect(rt, address).ok()?;
     prepare(&stream, Duration::from_secs(SILENCE_SECONDS));
     let mut link = StreamLink::new(stream, None);
     send(&mut link, &write_login(imei)).ok()?;
+    Some(link)
+}
+
+// A link on which this device has logged in.
+fn logged_in(rt: &HostRuntime, address: SocketAddr, imei: Imei) -> Option<Stream> {
+    let mut link = with_login(rt, address, imei)?;
     if hear(&mut link)? == 1 {
         Some(link)
     } else {
         None
     }
+}
+
+/// What is answered to this device's logins on two connections, both of which are there until both answers are heard.
+pub fn two_answers(rt: &HostRuntime, address: SocketAddr, imei: Imei) -> Option<[u8; 2]> {
+    let mut first = with_login(rt, address, imei)?;
+    let mut second = with_login(rt, address, imei)?;
+    Some([hear(&mut first)?, hear(&mut second)?])
 }
 
 impl Device {
@@ -123,7 +136,7 @@ impl Device {
         Some(())
     }
 
-    // Sends so many frames at most.
+    // Sends at most this many frames.
     fn send_frames(&mut self, alloc: Global, link: &mut Stream, frames: u64) -> Option<()> {
         for _ in 0..frames {
             if batch(self.counted) > 0 {

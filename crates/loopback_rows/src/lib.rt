@@ -1,5 +1,5 @@
-//! Devices and a server in one process, over TCP on this machine: one round, and many connections of which some break off. It has tests
-//! alone, so that the crates below aren't proved once more for them.
+//! Devices and a server in one process, over TCP on this machine: one round, many connections of which some break off, and two at the same
+//! time. It has tests alone, so that the crates below aren't proved once more for them.
 #![tactic(auto)]
 
 #[cfg(test)]
@@ -12,3 +12,5 @@ mod plans;
 mod round;
 #[cfg(test)]
 mod server;
+#[cfg(test)]
+mod side_by_side;

@@ -13,9 +13,9 @@ pub const RECORDS: u64 = 60;
 pub enum Ending {
     /// The device hangs up.
     HangsUp,
-    /// It sends so many bytes of the next frame, 1 to 44, and breaks off: the shortest frame has 45.
+    /// It sends this many bytes of the next frame, 1 to 44, and breaks off: the shortest frame has 45.
     Cut(u64),
-    /// It sends the next frame whole, hears so many bytes of its count, 0 to 3, and breaks off.
+    /// It sends the next frame whole, hears this many bytes of its count, 0 to 3, and breaks off.
     Unheard(u64),
 }
 
