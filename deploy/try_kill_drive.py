@@ -19,7 +19,7 @@ flash is formatted first. A kill loses nothing that was written, so this is no p
 Usage: deploy/try_kill_drive.py [FMB]; FMB is the built program, crates/fmb_program/out/fmb_program by default. Takes up to three minutes,
 by how fast the disk syncs.
 """
-import os, random, signal, struct, subprocess, sys, tempfile, time
+import atexit, os, random, signal, struct, subprocess, sys, tempfile, time
 from tracker import TOP, archived, logged_in, record, serve
 
 FMB = os.path.abspath(sys.argv[1] if len(sys.argv) > 1 else os.path.join(TOP, "crates/fmb_program/out/fmb_program"))
@@ -78,6 +78,7 @@ class Drive:
         self.said = script + ".said"
         with open(self.said, "wb") as said:
             self.process = subprocess.Popen([FMB, "drive", f"127.0.0.1:{port}", flash, script], stdin=subprocess.DEVNULL, stdout=said)
+        atexit.register(self.process.kill)
 
     def lines(self):
         """The lines that were written to their ends."""
@@ -132,6 +133,7 @@ def text_of(folder, name, *lines):
 with tempfile.TemporaryDirectory() as folder:
     flash, path = os.path.join(folder, "device.flash"), os.path.join(folder, "fleet.archive")
     server = serve(FMB, path, 4, 100_000)
+    atexit.register(server.process.kill)
     whole(Drive(server.port, flash, text_of(folder, "format.fmb", DEVICE)))
     stored, lost, counted, again, before = set(), set(), 0, 0, []
     for number in range(KILLS):
