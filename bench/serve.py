@@ -4,10 +4,12 @@ a plain Rust server of the same format (bench/serve_peer/plain.rs, built by rust
 makes. All run in turn, and what is shown are medians of the speeds and of each turn's ratios, so that a slow spell of the machine meets
 all of them. Then the memory of a session and of an archived record.
 
-Usage: bench/serve.py [PROGRAM]; PROGRAM is the built fmb_program, crates/fmb_program/out/fmb_program by default (`rt run` in its folder
-builds it). It needs rustc, which builds the clients too (bench/serve_peer/client.rs: a thread a connection), so that they take little of
-the processors that both servers use. Wanted: at least 0.95 of the plain server's packets a second, and with 64 connections 0.9 of the
-pairs of syncs; at most 300 KB a session and 110 bytes a record over its own.
+Usage: bench/serve.py [PROGRAM [MICROSECONDS]]; PROGRAM is the built fmb_program, crates/fmb_program/out/fmb_program by default (`rt run` in
+its folder builds it). With MICROSECONDS each sync takes at least as long, of all three alike (bench/slow_sync.c, which cc builds): where a
+disk syncs in no time, what is seen is the processor's work alone. It needs rustc, which builds the clients too
+(bench/serve_peer/client.rs: a thread a connection), so that they take little of the processors that both servers use. Wanted, on a disk
+that syncs 3,600 times a second (278): at least 0.95 of the plain server's packets a second, and with 64 connections 0.9 of the pairs of
+syncs; at most 300 KB a session and 110 bytes a record over its own.
 """
 import os, statistics, subprocess, sys, tempfile, time
 sys.path.insert(0, os.path.join(os.path.dirname(os.path.dirname(os.path.abspath(__file__))), "deploy"))
@@ -90,6 +92,12 @@ def sizes(folder):
     assert server.status(60) == 0 and server.lines()[-1].startswith(f"archive records {many} "), server.lines()
     return session, record
 
+
+if len(sys.argv) > 2 and "SYNC" not in os.environ:
+    with tempfile.TemporaryDirectory() as folder:
+        slow = os.path.join(folder, "slow_sync.so")
+        subprocess.run(["cc", "-O2", "-shared", "-fPIC", "-o", slow, os.path.join(TOP, "bench/slow_sync.c")], check=True)
+        sys.exit(subprocess.run([sys.executable, *sys.argv], env={**os.environ, "LD_PRELOAD": slow, "SYNC": sys.argv[2]}).returncode)
 
 with tempfile.TemporaryDirectory(dir=os.path.dirname(PROGRAM)) as folder:
     PLAIN, CLIENT = build(folder, "plain"), build(folder, "client")
