@@ -5,6 +5,8 @@
 #[cfg(test)]
 mod keeping;
 #[cfg(test)]
+mod media;
+#[cfg(test)]
 mod rounds;
 #[cfg(test)]
 mod samples;

@@ -1,0 +1,130 @@
+//! A tracker over a medium in memory of which one call fails: at that call, and once the ring was opened again.
+use crate::samples::{IMEI, Listing, held, sample};
+use avl_values::{Codec, Imei, MediumFault};
+use flash_ring::{Order, Ring};
+use frame_channel::MemoryLink;
+use medium::MemoryMedium;
+use std::alloc::Global;
+use std::test::Fail;
+use tracker_session::{KeepFault, Kept, PlainShell, RoundEnd, Tracker};
+
+// A tracker over two closed slots on a medium of which the call of this number fails: four open the ring.
+fn over_two(alloc: Global, call: u64) -> Option<Tracker<MemoryMedium>> {
+    let imei = Imei::from_number(IMEI)?;
+    let Ok(medium) = MemoryMedium::new(alloc, &[0; 544], &[call]) else {
+        return None;
+    };
+    match Ring::open(alloc, medium, 2) {
+        Ok(ring) => Some(Tracker::new(imei, ring, Order::Oldest)),
+        Err(_) => None,
+    }
+}
+
+// What keeping a record comes to.
+fn kept(tracker: &mut Tracker<MemoryMedium>) -> Option<Result<Kept, KeepFault>> {
+    let rec = sample(Codec::C8, 1)?;
+    if tracker.is_down() {
+        return None;
+    }
+    Some(tracker.keep(&rec, &mut Listing::new(false)))
+}
+
+// The same with two records before, each of which takes four calls.
+fn full(alloc: Global, call: u64) -> Option<Tracker<MemoryMedium>> {
+    let mut tracker = over_two(alloc, call)?;
+    let Ok(_) = kept(&mut tracker)? else {
+        return None;
+    };
+    let Ok(_) = kept(&mut tracker)? else {
+        return None;
+    };
+    Some(tracker)
+}
+
+// How many records are held once the ring of a failed call was opened again.
+fn opened_again(tracker: &mut Tracker<MemoryMedium>) -> Option<u16> {
+    if !tracker.is_down() {
+        return None;
+    }
+    tracker.reopen().ok()?;
+    Some(held(tracker))
+}
+
+// Where a call of keeping a record fails: how many are held once the ring was opened again, and what keeping it comes to then.
+fn kept_again(tracker: &mut Tracker<MemoryMedium>) -> Option<(u16, Result<Kept, KeepFault>)> {
+    let Err(KeepFault::MediumFault) = kept(tracker)? else {
+        return None;
+    };
+    let between = opened_again(tracker)?;
+    Some((between, kept(tracker)?))
+}
+
+fn with_room(alloc: Global, call: u64) -> Option<(u16, Result<Kept, KeepFault>)> {
+    kept_again(&mut over_two(alloc, call)?)
+}
+
+fn without_room(alloc: Global, call: u64) -> Option<(u16, Result<Kept, KeepFault>)> {
+    kept_again(&mut full(alloc, call)?)
+}
+
+// The record's bytes, a sync, its gate and a sync.
+#[test]
+fn each_call_of_a_store_fails_in_turn(rt: HostRuntime) -> Result<(), Fail> {
+    let alloc = rt.alloc();
+    let stored = Ok(Kept::Stored);
+    for (call, held) in [(4, 0), (5, 0), (6, 0), (7, 1)] {
+        assert!(rt; with_room(alloc, call) == Some((held, stored)), "{call}");
+    }
+    assert!(rt; with_room(alloc, 8).is_none());
+    Ok(())
+}
+
+// The oldest one's gate and a sync come first.
+#[test]
+fn each_call_of_a_store_into_a_full_ring_fails_in_turn(rt: HostRuntime) -> Result<(), Fail> {
+    let alloc = rt.alloc();
+    let stored = Ok(Kept::Stored);
+    let over = Ok(Kept::StoredOver);
+    assert!(rt; without_room(alloc, 12) == Some((2, over)));
+    for call in 13..17 {
+        assert!(rt; without_room(alloc, call) == Some((1, stored)), "{call}");
+    }
+    assert!(rt; without_room(alloc, 17) == Some((2, over)));
+    assert!(rt; without_room(alloc, 18).is_none());
+    Ok(())
+}
+
+// A round whose batch is counted by this number.
+fn round(
+    alloc: Global,
+    tracker: &mut Tracker<MemoryMedium>,
+    count: u8,
+) -> Option<Result<RoundEnd, MediumFault>> {
+    if tracker.is_down() {
+        return None;
+    }
+    let mut link = MemoryLink::new(alloc, &[1, 0, 0, 0, count], 1, 4096, &[]).ok()?;
+    Some(tracker.round(&mut link, &mut PlainShell, 1))
+}
+
+// Where a call of releasing two records fails: how many are held once the ring was opened again, and how a further round ends.
+fn round_again(alloc: Global, call: u64) -> Option<(u16, Result<RoundEnd, MediumFault>)> {
+    let mut tracker = full(alloc, call)?;
+    let Err(MediumFault) = round(alloc, &mut tracker, 2)? else {
+        return None;
+    };
+    let between = opened_again(&mut tracker)?;
+    let count = u8::try_from(between).ok()?;
+    Some((between, round(alloc, &mut tracker, count)?))
+}
+
+// Two gates and a sync.
+#[test]
+fn each_call_of_a_release_fails_in_turn(rt: HostRuntime) -> Result<(), Fail> {
+    let alloc = rt.alloc();
+    assert!(rt; round_again(alloc, 12) == Some((2, Ok(RoundEnd::Done(2)))));
+    assert!(rt; round_again(alloc, 13) == Some((1, Ok(RoundEnd::Done(1)))));
+    assert!(rt; round_again(alloc, 14) == Some((0, Ok(RoundEnd::Empty))));
+    assert!(rt; round_again(alloc, 15).is_none());
+    Ok(())
+}
