@@ -1,17 +1,17 @@
 //! A tracker over a medium in memory of which one call fails: at that call, and once the ring was opened again.
 use crate::samples::{IMEI, Listing, held, sample};
 use avl_values::{Codec, Imei, MediumFault};
-use flash_ring::{Order, Ring};
+use flash_ring::{Order, ReopenFault, Ring};
 use frame_channel::MemoryLink;
 use medium::MemoryMedium;
 use std::alloc::Global;
 use std::test::Fail;
 use tracker_session::{KeepFault, Kept, PlainShell, RoundEnd, Tracker};
 
-// A tracker over two closed slots on a medium of which the call of this number fails: four open the ring.
-fn over_two(alloc: Global, call: u64) -> Option<Tracker<MemoryMedium>> {
+// A tracker over two closed slots on a medium of which the calls of these numbers fail: four open the ring.
+fn over_two(alloc: Global, failing: &[u64]) -> Option<Tracker<MemoryMedium>> {
     let imei = Imei::from_number(IMEI)?;
-    let Ok(medium) = MemoryMedium::new(alloc, &[0; 544], &[call]) else {
+    let Ok(medium) = MemoryMedium::new(alloc, &[0; 544], failing) else {
         return None;
     };
     match Ring::open(alloc, medium, 2) {
@@ -31,7 +31,7 @@ fn kept(tracker: &mut Tracker<MemoryMedium>) -> Option<Result<Kept, KeepFault>> 
 
 // The same with two records before, each of which takes four calls.
 fn full(alloc: Global, call: u64) -> Option<Tracker<MemoryMedium>> {
-    let mut tracker = over_two(alloc, call)?;
+    let mut tracker = over_two(alloc, &[call])?;
     let Ok(_) = kept(&mut tracker)? else {
         return None;
     };
@@ -60,7 +60,7 @@ fn kept_again(tracker: &mut Tracker<MemoryMedium>) -> Option<(u16, Result<Kept, 
 }
 
 fn with_room(alloc: Global, call: u64) -> Option<(u16, Result<Kept, KeepFault>)> {
-    kept_again(&mut over_two(alloc, call)?)
+    kept_again(&mut over_two(alloc, &[call])?)
 }
 
 fn without_room(alloc: Global, call: u64) -> Option<(u16, Result<Kept, KeepFault>)> {
@@ -91,6 +91,29 @@ fn each_call_of_a_store_into_a_full_ring_fails_in_turn(rt: HostRuntime) -> Resul
     }
     assert!(rt; without_room(alloc, 17) == Some((2, over)));
     assert!(rt; without_room(alloc, 18).is_none());
+    Ok(())
+}
+
+// How many records are held once a ring was opened again whose store failed, and where a call of that fails, too.
+fn opened_later(alloc: Global, call: u64) -> Option<u16> {
+    let mut tracker = over_two(alloc, &[4, call])?;
+    let Err(KeepFault::MediumFault) = kept(&mut tracker)? else {
+        return None;
+    };
+    let Err(ReopenFault::MediumFault) = tracker.reopen() else {
+        return None;
+    };
+    opened_again(&mut tracker)
+}
+
+// A sync, the length and two slots.
+#[test]
+fn each_call_of_opening_again_fails_in_turn(rt: HostRuntime) -> Result<(), Fail> {
+    let alloc = rt.alloc();
+    for call in 5..9 {
+        assert!(rt; opened_later(alloc, call) == Some(0), "{call}");
+    }
+    assert!(rt; opened_later(alloc, 9).is_none());
     Ok(())
 }
 
