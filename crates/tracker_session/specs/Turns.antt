@@ -41,9 +41,10 @@ SendsAnswer None bytes p q x y = (q ≡ record p { orders = p.orders + 1 }) × M
 SendsAnswer (Some (Ok end.Broken)) bytes p q x y = (q ≡ record p { orders = p.orders + 1 }) × WritesPart bytes x y
 SendsAnswer (Some e) bytes p q x y = ⊥
 
--- a round ends as broken only where the link's count rose
+-- a round ends as broken only where the link's count rose, and always where a call of it failed
 pub record IsBroken (result : Ending) (old new : LinkState) : Type 0 where
   pub later : old.faults ≤ new.faults
+  pub passed : (result ≡ Some (Ok end.Broken) → ⊥) → new.faults ≡ old.faults
   pub cause : result ≡ Some (Ok end.Broken) → Rose old.faults new.faults
 
 -- a tracker after which nothing has changed, and what is left of the round and told of the link is as before
@@ -108,7 +109,8 @@ pub record Begins (v : TrackerView) (p : Progress) : Type 0 where
   pub orders : p.orders ≡ 0
   pub done : p.done ≡ 0
 
--- a round ends as broken only at the link's end, where its bytes are told, or where its count rose
+-- a round ends as broken only at the link's end, where its bytes are told, or where its count rose; and always where a call of it failed
 pub record BreaksWith (result : Result RoundEnd MediumFault) (old new : LinkState) : Type 0 where
   pub later : old.faults ≤ new.faults
+  pub passed : (result ≡ Ok end.Broken → ⊥) → new.faults ≡ old.faults
   pub cause : result ≡ Ok end.Broken → IfSome new.told (λ _. new.ended ≡ true) ⊎ Rose old.faults new.faults

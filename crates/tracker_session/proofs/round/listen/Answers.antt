@@ -30,9 +30,7 @@ pub items-init : goal.items-init
 items-init g c =
     let m : ShellMeaning g.row.S.Denot = record { says = g.S.Shell.says; obeyed = g.S.Shell.obeyed } in
     let inv = c.reads.invariant in
-    let r = round_of c.args.tracker.now c.args.progress.now c.args.shell.now in
-    let later = c.read.ensures.cause.later in
-    let faults = inv.5 in (
+    let r = round_of c.args.tracker.now c.args.progress.now c.args.shell.now in (
       inv.0,
       goes-read m r inv.0 (inv.0 ++ []) inv.0 (take c.in-Ok.count c.read.new.into) c.args.tracker.now.ring c.reads.tracker c.reads.progress c.reads.shell (g.L.Link.state c.args.link.now).told (g.L.Link.state c.reads.link).told (g.L.Link.state c.read.new.self).told
           (sym (append-nil inv.0)) inv.1 c.in-Ok.ensures.took,
@@ -43,7 +41,7 @@ items-init g c =
       (λ some. absurd (omega arith)),
       inv.3,
       inv.4,
-      omega arith,
+      c.in-Ok.ensures.cause.passed ∙ inv.5,
       g.met.L.Link.follows_then c.args.link.now c.reads.link c.read.new.self inv.6 c.read.ensures.follows,
       inv.7,
     )
@@ -119,8 +117,6 @@ items-preserved g c =
     let less = subst R c.in-None.is c.take_one-n.ensures.less in
     let most = inv.5 in
     let records = inv.8 in
-    let faults = inv.9 in
-    let later = c.take_one-n.ensures.broken.later in
     let fewer = less.budget in
     let same = less.records in (
       inv.0,
@@ -134,7 +130,7 @@ items-preserved g c =
       (λ _. omega arith),
       less.orders,
       omega arith,
-      omega arith,
+      c.take_one-n.ensures.broken.passed (λ broken. let none = sym c.in-None.is ∙ broken in cc) ∙ inv.9,
       g.met.L.Link.follows_then c.args.link.now c.items.link c.take_one-n.new.link inv.10 c.take_one-n.ensures.follows,
       record { imei = c.take_one-n.ensures.same.imei ∙ inv.11.imei; order = c.take_one-n.ensures.same.order ∙ inv.11.order },
     )

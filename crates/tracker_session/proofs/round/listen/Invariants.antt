@@ -14,7 +14,7 @@ invariant-items g l =
     × (l.at ≤ l.count) × (l.count ≤ length l.buffer) × (length l.buffer ≡ 1024)
     × (budget l.tracker l.progress ≤ budget l.initial.tracker l.initial.progress) × (0 < l.at → budget l.tracker l.progress < budget l.initial.tracker l.initial.progress)
     × (l.progress.orders ≤ 16) × (records_left l.tracker l.progress < 2 ^ 32)
-    × ((g.L.Link.state l.fn.link).faults ≤ (g.L.Link.state l.link).faults) × g.L.Link.follows l.fn.link l.link × IsSameDevice l.fn.tracker l.tracker
+    × ((g.L.Link.state l.link).faults ≡ (g.L.Link.state l.fn.link).faults) × g.L.Link.follows l.fn.link l.link × IsSameDevice l.fn.tracker l.tracker
 
 abbrev pub decreases-items : goal.decreases-items
 decreases-items g l = l.count - l.at
@@ -25,7 +25,7 @@ invariant-reads g l =
     (taken : List ℕ)
     × Goes m (round_of l.fn.tracker l.fn.progress l.fn.shell) taken taken l.fn.tracker.ring l.tracker l.progress l.shell (g.L.Link.state l.fn.link).told (g.L.Link.state l.link).told
     × (length l.buffer ≡ 1024) × (l.progress.orders ≤ 16) × (records_left l.tracker l.progress < 2 ^ 32)
-    × ((g.L.Link.state l.fn.link).faults ≤ (g.L.Link.state l.link).faults) × g.L.Link.follows l.fn.link l.link × IsSameDevice l.fn.tracker l.tracker
+    × ((g.L.Link.state l.link).faults ≡ (g.L.Link.state l.fn.link).faults) × g.L.Link.follows l.fn.link l.link × IsSameDevice l.fn.tracker l.tracker
 
 abbrev pub decreases-reads : goal.decreases-reads
 decreases-reads g l = budget l.tracker l.progress
