@@ -278,7 +278,7 @@ module _ {S O : Type 0} (leaves : S → ℕ → List ℕ → Result Receipt Admi
   session_calls (ends.EndedInside n) mark taken link new o s w y e = all_calls (ends.EndedInside n) mark taken e.0.goes.said o s w y (read_all taken e.0.goes.said new e.0.goes.reads).items e.0.goes.does e.0.welcome refl
   session_calls (ends.LongEnough n) mark taken link new o s w y e = all_calls (ends.LongEnough n) mark taken e.0.goes.said o s w y (read_all taken e.0.goes.said new e.0.goes.reads).items e.0.goes.does e.0.welcome refl
   session_calls (ends.Broken found) mark taken link new o s w y b = all_calls (ends.Broken found) mark taken b.dealt o s w y (read_fault found taken b.dealt b.reads).0 b.does b.welcome refl
-  session_calls ends.LinkFault mark taken link new o s w y (inl e) = all_calls ends.LinkFault mark taken e.goes.said o s w y (read_all taken e.goes.said new e.goes.reads).items e.goes.does e.welcome tt
+  session_calls ends.LinkFault mark taken link new o s w y (inl e) = all_calls ends.LinkFault mark taken e.0.goes.said o s w y (read_all taken e.0.goes.said new e.0.goes.reads).items e.0.goes.does e.0.welcome tt
   session_calls ends.LinkFault mark taken link new o s w y (inr t) = cut_by (nat_le 4 t.stops.part) mark taken o s w y t t.stops.frames t.stops.records
   session_calls (ends.Unknown imei) mark taken link new o s w y t = stranger_calls imei mark taken o s w y t
   session_calls (ends.MediumFault n) mark taken link new o s w y t = refused_calls (ends.MediumFault n) _ mark taken o s w y t t.stops (λ b is. is)

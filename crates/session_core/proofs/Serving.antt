@@ -1,6 +1,6 @@
 -- A link, piece by piece.
 use Rattle.std.proofs.Common.{◌≡◌, inr, ℕ, ◌<◌, ◌≤◌, Bool, true, List, [], ◌∷◌, ◌++◌, length, take, Option, Some, None, Result, IfSome, refl, sym, ap, subst, ◌∙◌, append-nil, add-zero, arith}
-use Rattle.std.specs.Prelude.{◌↔◌}
+use Rattle.std.specs.Prelude.{◌↔◌, ◌^◌}
 use Rattle.std.proofs.lemmas.List.{take-append-le, length-take-le}
 use Rattle.item_streams.specs.Readers.{Reader}
 use Rattle.links.specs.Links.{IsEmptyAtEnd, LinkState, Moves, Traffic}
@@ -70,9 +70,9 @@ module _ {S O : Type 0} (leaves : S → ℕ → List ℕ → Result Receipt Admi
   ends_piece ends.NoMemory a b link old r new x y z g e = stops_piece ends.NoMemory a b old r x y z g e
 
   pub ends_at_end : (end : SessionEnd) (a : List ℕ) (link : LinkState) (old new : Reader) (have : List ℕ) (k : ℕ) (x y : Doing S O) → new.have ≡ have → k ≡ length new.have → (k ≡ 0 → end ≡ ends.Ended) → (0 < k → end ≡ ends.EndedInside k)
-      → DoesAll leaves m known a old new x y → IsAtEnd link → Ends leaves m known end a link old new x y
-  ends_at_end end a link old new [] k x y is size none some all there =
-      subst (λ (e : SessionEnd). Ends leaves m known e a link old new x y) (sym (none (size ∙ ap (λ (b : List ℕ). length b) is))) (all, is, there)
-  ends_at_end end a link old new (b ∷ bs) k x y is size none some all there =
+      → DoesAll leaves m known a old new x y → IsAtEnd link → length a < 2 ^ 30 → Ends leaves m known end a link old new x y
+  ends_at_end end a link old new [] k x y is size none some all there below =
+      subst (λ (e : SessionEnd). Ends leaves m known e a link old new x y) (sym (none (size ∙ ap (λ (b : List ℕ). length b) is))) (all, is, there, below)
+  ends_at_end end a link old new (b ∷ bs) k x y is size none some all there below =
       let pos : 0 < k = omega (arith, size, ap (λ (c : List ℕ). length c) is) in
-      subst (λ (e : SessionEnd). Ends leaves m known e a link old new x y) (sym (some pos)) (all, size, pos, there)
+      subst (λ (e : SessionEnd). Ends leaves m known e a link old new x y) (sym (some pos)) (all, size, pos, there, below)

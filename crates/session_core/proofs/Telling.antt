@@ -148,16 +148,16 @@ module _ {S O : Type 0} (leaves : S → ℕ → List ℕ → Result Receipt Admi
   pub course : (end : SessionEnd) (taken : List ℕ) (link : LinkState) (new : Reader) (o : O) (s : S) (w : Option Traffic) (y : Doing S O) → length taken ≤ 2 ^ 30 → Ends leaves m known end taken link (fresh false) new (start o s w) y → Course end taken link o w y
   course ends.Ended taken link new o s w y few e =
       let r = read_all taken e.0.goes.said new e.0.goes.reads in
-      dealt_all ends.Ended taken e.0.goes.said link o s w y few r.items e.0.goes.does e.0.welcome (λ a. (a, r.rest ∙ e.1, e.2))
+      dealt_all ends.Ended taken e.0.goes.said link o s w y few r.items e.0.goes.does e.0.welcome (λ a. (a, r.rest ∙ e.1, e.2, e.3))
   course (ends.EndedInside n) taken link new o s w y few e =
       let r = read_all taken e.0.goes.said new e.0.goes.reads in
-      dealt_all (ends.EndedInside n) taken e.0.goes.said link o s w y few r.items e.0.goes.does e.0.welcome (λ a. (a, r.judged e.0.going, e.1 ∙ ap (λ (b : List ℕ). length b) (sym r.rest), e.2, e.3))
+      dealt_all (ends.EndedInside n) taken e.0.goes.said link o s w y few r.items e.0.goes.does e.0.welcome (λ a. (a, r.judged e.0.going, e.1 ∙ ap (λ (b : List ℕ). length b) (sym r.rest), e.2, e.3, e.4))
   course (ends.LongEnough n) taken link new o s w y few e =
       let r = read_all taken e.0.goes.said new e.0.goes.reads in
       dealt_all (ends.LongEnough n) taken e.0.goes.said link o s w y few r.items e.0.goes.does e.0.welcome (λ a. (a, r.judged e.0.going, e.1, e.2))
   course ends.LinkFault taken link new o s w y few (inl e) =
-      let r = read_all taken e.goes.said new e.goes.reads in
-      dealt_all ends.LinkFault taken e.goes.said link o s w y few r.items e.goes.does e.welcome (λ a. inl a)
+      let r = read_all taken e.0.goes.said new e.0.goes.reads in
+      dealt_all ends.LinkFault taken e.0.goes.said link o s w y few r.items e.0.goes.does e.0.welcome (λ a. inl (a, e.1))
   course ends.LinkFault taken link new o s w y few (inr t) =
       let c = t.stops in
       stopped_at ends.LinkFault taken link o s w y t (take c.part (reply m known t.between.talk t.at)) (counted_in (stores m known t.between.talk t.at) c.part) few c.wire c.frames c.records

@@ -159,6 +159,6 @@ module _ {O : Type 0} (m : Meaning O) (known : ℕ → Bool) where
     | inr u ↦ unbegun_words o p link (served_so i f k ends.NoMemory) taken written c u tt (λ q e. tt) (λ counted. tt)
   ]
   told o p link i f k ends.LinkFault taken written c = elim c.halts [
-    | inl a ↦ all_words o p link (served_so i f k ends.LinkFault) taken written c a tt (λ q e. tt) (λ counted. tt)
+    | inl a ↦ all_words o p link (served_so i f k ends.LinkFault) taken written c a.0 tt (λ q e. tt) (λ counted. tt)
     | inr b ↦ inside_words o p link (served_so i f k ends.LinkFault) taken written c b (λ left. tt) (λ q. tt) (λ counted others. tt)
   ]

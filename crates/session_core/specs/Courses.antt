@@ -87,18 +87,18 @@ module _ {O : Type 0} (m : Meaning O) (known : ℕ → Bool) where
     pub counted : h.counted ≡ []
     pub orders : p ≡ o
 
-  -- how a session that dealt with these items and took these bytes halts, by its end
+  -- How a session that dealt with these items and took these bytes halts, by its end. It asks its link for more only below 2^30 bytes.
   abbrev pub HaltsBy : SessionEnd → List UpValue → Halt → List ℕ → LinkState → O → O → Type 0
-  HaltsBy Ended dealt h taken link o p = IsAllDealt dealt h o p × ((up_reading false taken).rest ≡ []) × IsAtEnd link
+  HaltsBy Ended dealt h taken link o p = IsAllDealt dealt h o p × ((up_reading false taken).rest ≡ []) × IsAtEnd link × (length taken < 2 ^ 30)
   HaltsBy (EndedInside have) dealt h taken link o p =
-      IsAllDealt dealt h o p × (rest_verdict (up_reading false taken) ≡ short) × (have ≡ length (up_reading false taken).rest) × (0 < have) × IsAtEnd link
+      IsAllDealt dealt h o p × (rest_verdict (up_reading false taken) ≡ short) × (have ≡ length (up_reading false taken).rest) × (0 < have) × IsAtEnd link × (length taken < 2 ^ 30)
   HaltsBy (LongEnough most) dealt h taken link o p = IsAllDealt dealt h o p × (rest_verdict (up_reading false taken) ≡ short) × (most ≡ 2 ^ 30) × (length taken ≡ 2 ^ 30)
   HaltsBy (Broken found) dealt h taken link o p = IsAllDealt dealt h o p × (rest_verdict (up_reading false taken) ≡ fault found.kind found.place)
   HaltsBy (Unknown imei) dealt h taken link o p = IsRefusal imei dealt h o p
   HaltsBy (MediumFault faults) dealt h taken link o p = IsBeforePacket dealt h o p
   HaltsBy (Down faults) dealt h taken link o p = IsBeforePacket dealt h o p
   HaltsBy NoMemory dealt h taken link o p = IsBeforePacket dealt h o p ⊎ IsUnbegun dealt h taken o p
-  HaltsBy LinkFault dealt h taken link o p = IsAllDealt dealt h o p ⊎ IsInAnswer dealt h o
+  HaltsBy LinkFault dealt h taken link o p = (IsAllDealt dealt h o p × (length taken < 2 ^ 30)) ⊎ IsInAnswer dealt h o
 
   -- A session's course: the items that were dealt with, each with its answer written whole, and where it halted.
   pub record IsCourse (o p : O) (link : LinkState) (served : Served) (taken written : List ℕ) : Type 0 where

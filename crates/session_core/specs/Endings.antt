@@ -25,10 +25,10 @@ module _ {S O : Type 0} (leaves : S → ℕ → List ℕ → Result Receipt Admi
     pub welcome : is_stranger y.talk ≡ false
 
   abbrev pub Ends : SessionEnd → List ℕ → LinkState → Reader → Reader → Doing S O → Doing S O → Type 0
-  Ends ends.Ended bytes link old new x y = DoesAll bytes old new x y × (new.have ≡ []) × IsAtEnd link
-  Ends (ends.EndedInside n) bytes link old new x y = DoesAll bytes old new x y × (n ≡ length new.have) × (0 < n) × IsAtEnd link
+  Ends ends.Ended bytes link old new x y = DoesAll bytes old new x y × (new.have ≡ []) × IsAtEnd link × (length bytes < 2 ^ 30)
+  Ends (ends.EndedInside n) bytes link old new x y = DoesAll bytes old new x y × (n ≡ length new.have) × (0 < n) × IsAtEnd link × (length bytes < 2 ^ 30)
   Ends (ends.LongEnough n) bytes link old new x y = DoesAll bytes old new x y × (n ≡ 2 ^ 30) × (length bytes ≡ 2 ^ 30)
-  Ends ends.LinkFault bytes link old new x y = DoesAll bytes old new x y ⊎ Stops leaves m known ends.LinkFault bytes bytes old x y
+  Ends ends.LinkFault bytes link old new x y = (DoesAll bytes old new x y × (length bytes < 2 ^ 30)) ⊎ Stops leaves m known ends.LinkFault bytes bytes old x y
   Ends (ends.Broken found) bytes link old new x y = Breaks leaves m known found bytes bytes old x y
   Ends (ends.Unknown imei) bytes link old new x y = Stops leaves m known (ends.Unknown imei) bytes bytes old x y
   Ends (ends.MediumFault n) bytes link old new x y = Stops leaves m known (ends.MediumFault n) bytes bytes old x y

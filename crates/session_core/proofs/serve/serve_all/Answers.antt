@@ -51,7 +51,8 @@ returns-then-n-eq0-clause-ends g c =
             going = i.ready.going;
             welcome = (let e = i.ready.welcome in ap (λ (b : Bool). is_stranger (talk_with c.loop-taken.session.imei b c.loop-taken.orders)) e ∙ never_stranger c.loop-taken.session.imei c.loop-taken.orders);
           })
-          (read_end (g.L.Link.state c.loop-taken.link) (g.L.Link.state c.read.new.self) c.in-Ok.n c.read.new.into c.if-n-eq0.true c.in-Ok.ensures.took (c.in-Ok.ensures.end pos) c.in-Ok.ensures.stays_ended),
+          (read_end (g.L.Link.state c.loop-taken.link) (g.L.Link.state c.read.new.self) c.in-Ok.n c.read.new.into c.if-n-eq0.true c.in-Ok.ensures.took (c.in-Ok.ensures.end pos) c.in-Ok.ensures.stays_ended)
+          (omega (arith, i.size, below)),
     )
 
 pub returns-in-Some-clause-ends : goal.returns-in-Some-clause-ends
