@@ -1,4 +1,4 @@
-ghost use Rattle.std.specs.Prelude.{◌<◌, ◌≤◌, None, IfSome, length};
+ghost use Rattle.std.specs.Prelude.{◌≡◌, ◌<◌, ◌≤◌, None, IfSome, length};
 
 use avl_values::Failed;
 use std::io::Write;
@@ -14,7 +14,9 @@ pub struct Output<W> {
 
 impl<W: Write + Drop> Output<W> {
     /// The sink of a writer. No call failed yet.
-    pub fn new(writer: W) -> Output<W> {
+    pub fn new(writer: W) -> Output<W>
+        ensures { result.faults ≡ 0 }
+    {
         Output { writer, faults: 0 }
     }
 }
