@@ -55,6 +55,24 @@ fn faults_of_settings(rt: HostRuntime) -> Result<(), Fail> {
     Ok(())
 }
 
+// Whether a fix with these values fits two settings, of one byte and of two.
+fn fits(settings: &Settings, values: &[u64]) -> bool {
+    let mut fix = fix(0, 0, 0, 0);
+    let _added = fix.values.try_extend_from_slice(values);
+    settings.fits(&fix)
+}
+
+#[test]
+fn values_that_fit(rt: HostRuntime) -> Result<(), Fail> {
+    let settings = Settings::check(Codec::C8, 0, 0, 0, 0, &[setting(1), setting(2)])?;
+    assert!(rt; fits(&settings, &[0xff, 0xffff]));
+    assert!(rt; !fits(&settings, &[0x100, 0]));
+    assert!(rt; !fits(&settings, &[0, 0x1_0000]));
+    assert!(rt; !fits(&settings, &[0]));
+    assert!(rt; !fits(&settings, &[0, 0, 0]));
+    Ok(())
+}
+
 fn fix(time: u64, angle: u16, speed: u16, odometer: u64) -> Fix {
     Fix {
         time,

@@ -1,4 +1,4 @@
-use crate::{Bench, FileMedium, Medium, MemoryBench, MemoryMedium, Tear};
+use crate::{Bench, FileMedium, Medium, MemoryBench, MemoryMedium, ReserveError, Tear};
 use std::fs;
 use std::fs::OpenOptions;
 use std::os::unix::fs::symlink;
@@ -8,6 +8,25 @@ use std::test::Fail;
 fn a_medium_of_three_bytes_has_length_three(rt: HostRuntime) -> Result<(), Fail> {
     let mut medium = MemoryMedium::new(rt.alloc(), &[1, 2, 3], &[])?;
     assert_eq!(&rt; medium.len()?, 3);
+    Ok(())
+}
+
+// Room above 2^62 is refused and counted.
+fn refuses_room<M: Medium>(medium: &mut M) -> bool {
+    let before = medium.faults();
+    medium.reserve((1 << 62) + 1) == Err(ReserveError::Failed) && medium.faults() > before
+}
+
+#[test]
+fn room_has_an_end(rt: HostRuntime) -> Result<(), Fail> {
+    let mut medium = MemoryMedium::new(rt.alloc(), &[1], &[])?;
+    assert!(&rt; refuses_room(&mut medium));
+    assert_eq!(&rt; medium.content(), [1].as_slice());
+    let mut bench = MemoryBench::new(rt.alloc())?;
+    assert!(&rt; refuses_room(&mut bench));
+    bench.arm(0, Tear::Keep);
+    assert!(&rt; bench.sync().is_err());
+    assert!(&rt; bench.reserve(1) == Err(ReserveError::Failed));
     Ok(())
 }
 
@@ -41,6 +60,7 @@ fn a_file_keeps_what_was_written(rt: HostRuntime) -> Result<(), Fail> {
     let path = "medium_test_file";
     let _ = fs::remove_file(&rt, path);
     let mut medium = FileMedium::open(&rt, path)?;
+    assert!(&rt; refuses_room(&mut medium));
     medium.reserve(5)?;
     medium.write(3, &[7, 8])?;
     medium.sync()?;

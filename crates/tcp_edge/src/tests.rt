@@ -38,3 +38,30 @@ fn a_silent_peer_is_given_up(rt: HostRuntime) -> Result<(), Fail> {
     assert_eq!(rt; (door.faults(), door.link_faults()), (0, 1));
     Ok(())
 }
+
+/// A peer that left with bytes unread takes no more, and its link counts.
+#[test]
+fn a_peer_that_left_takes_no_bytes(rt: HostRuntime) -> Result<(), Fail> {
+    let listener = TcpListener::bind(&rt, "127.0.0.1:0")?;
+    let address = listener.local_addr()?;
+    let mut door = StreamDoor::new(listener, rt.stderr(), Duration::from_secs(20));
+    let peer = TcpStream::connect(&rt, address)?;
+    let mut server = door.accept().ok().expect(&rt, "a link");
+    assert_eq!(rt; server.write(b"a").ok(), Some(1));
+    drop(peer);
+    assert!(rt; server.write(b"b").is_err());
+    door.done(server);
+    assert_eq!(rt; (door.faults(), door.link_faults()), (0, 1));
+    Ok(())
+}
+
+/// A listener that has no connection and doesn't wait for one: accepting fails, and the door counts.
+#[test]
+fn a_door_that_gives_no_link_counts(rt: HostRuntime) -> Result<(), Fail> {
+    let listener = TcpListener::bind(&rt, "127.0.0.1:0")?;
+    listener.set_nonblocking(true)?;
+    let mut door = StreamDoor::new(listener, rt.stderr(), Duration::from_secs(20));
+    assert!(rt; door.accept().is_err());
+    assert_eq!(rt; (door.faults(), door.link_faults()), (1, 0));
+    Ok(())
+}
