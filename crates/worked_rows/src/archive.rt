@@ -404,3 +404,38 @@ fn each_call_of_a_shelf_fails_in_turn(rt: HostRuntime) -> Result<(), Fail> {
     assert!(rt; failing_call(alloc, 8) == ("stored", None));
     Ok(())
 }
+
+// How many records a shelf lists that is opened again over its medium, and whether the record is stored then.
+fn opened_again(alloc: Global, medium: MemoryMedium) -> Option<(usize, bool)> {
+    let Ok(mut shelf) = Shelf::open(alloc, medium) else {
+        return None;
+    };
+    let listed = shelf.list().len();
+    let answer = admit(alloc, &mut shelf, DEVICE, &[0x30])?;
+    Some((listed, answer.is_ok()))
+}
+
+// The same where a call of opening it, or of the first admit, has failed.
+fn after_failing(alloc: Global, call: u64) -> Option<(usize, bool)> {
+    let mut shelf = match opened(alloc, b"", &[call])? {
+        Err((_, medium)) => return opened_again(alloc, medium),
+        Ok(shelf) => shelf,
+    };
+    match admit(alloc, &mut shelf, DEVICE, &[0x30]) {
+        Some(Err(_)) => opened_again(alloc, shelf.into_medium()),
+        _ => None,
+    }
+}
+
+#[test]
+fn a_shelf_is_opened_again_after_each_failing_call(rt: HostRuntime) -> Result<(), Fail> {
+    let alloc = rt.alloc();
+    for (call, listed) in [0, 0, 0, 0, 0, 0, 0, 1].iter().enumerate() {
+        assert!(rt;
+            after_failing(alloc, call as u64) == Some((*listed, true)),
+            "{call}"
+        );
+    }
+    assert!(rt; after_failing(alloc, 8).is_none());
+    Ok(())
+}

@@ -161,6 +161,24 @@ fn what_is_no_flash(rt: HostRuntime) -> Result<(), Fail> {
     Ok(())
 }
 
+// Whether two slots are formatted on an empty medium of which one call fails.
+fn formats(alloc: Global, call: u64) -> Option<bool> {
+    let mut medium = MemoryMedium::new(alloc, &[], &[call]).ok()?;
+    medium.reserve(544).ok()?;
+    Some(Ring::format(&mut medium, 2).is_ok())
+}
+
+// A write for each slot, and a sync.
+#[test]
+fn each_call_of_a_format_fails_in_turn(rt: HostRuntime) -> Result<(), Fail> {
+    let alloc = rt.alloc();
+    for call in 0..3 {
+        assert!(rt; formats(alloc, call) == Some(false), "{call}");
+    }
+    assert!(rt; formats(alloc, 3) == Some(true));
+    Ok(())
+}
+
 // Two closed slots on a medium of which one call fails.
 fn two_closed(
     alloc: Global,
@@ -175,10 +193,13 @@ fn two_closed(
     Some(Ring::open(alloc, medium, 2))
 }
 
-// Where a ring was refused.
-fn refused(fault: OpenFault, medium: &MemoryMedium) -> (&'static str, bool) {
+// Where a ring was refused, and whether it opens over the medium that was handed back.
+fn refused(alloc: Global, fault: OpenFault, medium: MemoryMedium) -> (&'static str, bool) {
     match fault {
-        OpenFault::MediumFault => ("open", medium.faults() == 1),
+        OpenFault::MediumFault => (
+            "open",
+            medium.faults() == 1 && Ring::open(alloc, medium, 2).is_ok(),
+        ),
         _ => ("refused", false),
     }
 }
@@ -202,7 +223,7 @@ fn stores_again(ring: &mut Ring<MemoryMedium>) -> bool {
 fn failing_call(alloc: Global, call: u64) -> (&'static str, bool) {
     match two_closed(alloc, call) {
         None => ("memory", false),
-        Some(Err((fault, medium))) => refused(fault, &medium),
+        Some(Err((fault, medium))) => refused(alloc, fault, medium),
         Some(Ok(mut ring)) => failing_put(&mut ring),
     }
 }
@@ -217,6 +238,23 @@ fn each_call_fails_in_turn(rt: HostRuntime) -> Result<(), Fail> {
         assert!(rt; failing_call(alloc, call) == ("put", true));
     }
     assert!(rt; failing_call(alloc, 8) == ("stored", true));
+    Ok(())
+}
+
+// Whether a ring of two has a record in each of its slots, and in the one after.
+fn slots_held(alloc: Global) -> Option<[bool; 3]> {
+    let Ok(mut ring) = two_closed(alloc, 99)? else {
+        return None;
+    };
+    if store(&mut ring).is_some() || ring.is_down() {
+        return None;
+    }
+    Some([0, 1, 2].map(|slot| ring.rec_at(slot).is_some()))
+}
+
+#[test]
+fn only_an_open_slot_has_a_record(rt: HostRuntime) -> Result<(), Fail> {
+    assert!(rt; slots_held(rt.alloc()) == Some([true, false, false]));
     Ok(())
 }
 

@@ -10,3 +10,7 @@ mod command_frames;
 mod flash;
 #[cfg(test)]
 mod frames;
+#[cfg(test)]
+mod journal;
+#[cfg(test)]
+mod values;
