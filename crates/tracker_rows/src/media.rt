@@ -8,16 +8,21 @@ use std::alloc::Global;
 use std::test::Fail;
 use tracker_session::{KeepFault, Kept, PlainShell, RoundEnd, Tracker};
 
-// A tracker over two closed slots on a medium of which the calls of these numbers fail: four open the ring.
-fn over_two(alloc: Global, failing: &[u64]) -> Option<Tracker<MemoryMedium>> {
+// A tracker over two slots on a medium of which the calls of these numbers fail: four open the ring.
+fn over(alloc: Global, bytes: &[u8], failing: &[u64]) -> Option<Tracker<MemoryMedium>> {
     let imei = Imei::from_number(IMEI)?;
-    let Ok(medium) = MemoryMedium::new(alloc, &[0; 544], failing) else {
+    let Ok(medium) = MemoryMedium::new(alloc, bytes, failing) else {
         return None;
     };
     match Ring::open(alloc, medium, 2) {
         Ok(ring) => Some(Tracker::new(imei, ring, Order::Oldest)),
         Err(_) => None,
     }
+}
+
+// The same with both slots closed.
+fn over_two(alloc: Global, failing: &[u64]) -> Option<Tracker<MemoryMedium>> {
+    over(alloc, &[0; 544], failing)
 }
 
 // What keeping a record comes to.
@@ -91,6 +96,26 @@ fn each_call_of_a_store_into_a_full_ring_fails_in_turn(rt: HostRuntime) -> Resul
     }
     assert!(rt; without_room(alloc, 17) == Some((2, over)));
     assert!(rt; without_room(alloc, 18).is_none());
+    Ok(())
+}
+
+// Two slots, of which the second is open and has the last sequence.
+fn with_the_last_sequence() -> [u8; 544] {
+    let mut bytes = [0; 544];
+    bytes[272..276].copy_from_slice(&[0xa5, 8, 30, 0x7f]);
+    bytes[276..283].copy_from_slice(&[0xff; 7]);
+    bytes
+}
+
+// What keeping a record comes to after the last sequence, and how many are held then.
+fn kept_after_the_last(alloc: Global) -> Option<(Result<Kept, KeepFault>, u16)> {
+    let mut tracker = over(alloc, &with_the_last_sequence(), &[])?;
+    Some((kept(&mut tracker)?, held(&tracker)))
+}
+
+#[test]
+fn a_spent_sequence_keeps_nothing(rt: HostRuntime) -> Result<(), Fail> {
+    assert!(rt; kept_after_the_last(rt.alloc()) == Some((Err(KeepFault::SeqSpent), 1)));
     Ok(())
 }
 

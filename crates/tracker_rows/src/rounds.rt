@@ -1,6 +1,6 @@
 //! Rounds over links in memory.
 use crate::samples::{held, with_records};
-use avl_values::{Codec, MediumFault};
+use avl_values::{Codec, Fault, FaultKind, MediumFault};
 use crc_field::crc;
 use frame_channel::{Link, MemoryLink};
 use medium::{MemoryBench, Tear};
@@ -78,12 +78,21 @@ fn a_round_ends_by_what_comes_down(rt: HostRuntime) -> Result<(), Fail> {
     let alloc = rt.alloc();
     let login = RoundEnd::WrongAnswer { got: Got::Login(2) };
     let count = RoundEnd::WrongAnswer { got: Got::Count(2) };
+    let frame = RoundEnd::WrongAnswer {
+        got: Got::Frame(Fault {
+            kind: FaultKind::Length,
+            place: 4,
+        }),
+    };
     assert!(rt;
         with_three(alloc, b"\x01\x00\x00\x00\x03", &[]) == ending(RoundEnd::Done(3), 122, 0)
     );
     assert!(rt; with_three(alloc, b"\x00", &[]) == ending(RoundEnd::Refused, 17, 3));
     assert!(rt; with_three(alloc, b"\x02", &[]) == ending(login, 17, 3));
     assert!(rt; with_three(alloc, b"\x01\x00\x00\x00\x02", &[]) == ending(count, 122, 3));
+    assert!(rt;
+        with_three(alloc, b"\x01\x00\x00\x00\x00\xff\xff\xff\xff", &[]) == ending(frame, 122, 3)
+    );
     assert!(rt; with_three(alloc, b"\x01\x00\x00", &[]) == ending(RoundEnd::Broken, 122, 3));
     assert!(rt; with_three(alloc, b"\x01\x00\x00\x00\x03", &[0]) == ending(RoundEnd::Broken, 0, 3));
     Ok(())
