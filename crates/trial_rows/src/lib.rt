@@ -12,3 +12,5 @@ mod made;
 mod replay;
 #[cfg(test)]
 mod rows;
+#[cfg(test)]
+mod stops;

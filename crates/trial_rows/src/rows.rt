@@ -242,6 +242,21 @@ fn broken_rounds_lose_nothing(rt: HostRuntime) {
                 "connection 1 356307042441013 device broken server inside 28 up 62 45 down 1 1\n",
             ],
         ),
+        // the server restarts while it waits for the rest
+        (
+            &[
+                DEVICE,
+                FIX_0,
+                "round 356307042441013 64 40 -\n",
+                "power server\n",
+            ],
+            &[
+                ONE_ON_FLASH,
+                ACQUIRED_0,
+                FLASH_0,
+                "connection 1 356307042441013 device broken server restart up 62 40 down 1 1\n",
+            ],
+        ),
         // a stranger
         (
             &[
