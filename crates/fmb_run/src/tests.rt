@@ -507,15 +507,34 @@ fn captures_are_shown_as_written_down(rt: HostRuntime) {
 }
 
 #[test]
+fn a_capture_that_cant_be_opened_and_a_report_that_cant_be_printed(rt: HostRuntime) {
+    let cases: [(&str, &[u64], &[u64], u8, &str); 2] = [
+        ("show capture", &[0], &[], 7, "host fault\n"),
+        ("made 1 1 1", &[], &[0], 5, ""),
+    ];
+    for (line, opens, writes, status, printed) in cases {
+        let host = host_of(rt.alloc(), one_record(), opens, &[], writes, 1_000).expect(
+            &rt, "memory",
+        );
+        let answer = run_on(&rt, rt.alloc(), line, host).expect(&rt, "memory");
+        assert_eq!(rt; answer.status, status);
+        assert_eq!(rt; answer.printed.as_slice(), printed.as_bytes());
+    }
+}
+
+#[test]
 fn fault_of_a_capture_decides_before_the_sink(rt: HostRuntime) {
     let none: &[u64] = &[];
     let first: &[u64] = &[0];
+    let second: &[u64] = &[1];
     let cases = [
         (record_and_fault(), none, first, 1_000, 3, ""),
         (record_and_fault(), none, none, 8, 3, "{\"codec\""),
         (one_record(), none, first, 1_000, 5, ""),
         (one_record(), none, none, 8, 5, "{\"codec\""),
         (one_record(), first, first, 1_000, 4, ""),
+        (one_record(), second, none, 1_000, 4, "source fault\n"),
+        (one_record(), none, second, 1_000, 0, one_record_shown()),
     ];
     for (capture, reads, writes, room, status, printed) in cases {
         let answer = show_with(&rt, rt.alloc(), capture, reads, writes, room).expect(&rt, "memory");
