@@ -14,10 +14,6 @@ every_untold : (o : Option Content) → EveryImage o (KeepsEntries None)
 every_untold None = tt
 every_untold (Some c) = λ image im. record { old = image; was = tt; same = refl; archive = λ a. a }
 
-pub keeps-was : (o : Option Content) → EveryImage o (KeepsEntries o)
-keeps-was None = tt
-keeps-was (Some c) = λ image im. record { old = image; was = im; same = refl; archive = λ a. a }
-
 pub keeps-synced : (o now : Option Content) → IfTold o (λ c. IsImage c c.reads) → now ≡ told after_sync o → EveryImage now (KeepsEntries o)
 keeps-synced None now was is = every_untold now
 keeps-synced (Some c) now was is =

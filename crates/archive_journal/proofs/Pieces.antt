@@ -1,6 +1,6 @@
 -- A file read piece by piece.
-use Rattle.std.proofs.Common.{◌≡◌, ℕ, ◌+◌, ◌-◌, ◌<◌, ◌≤◌, min, List, ◌++◌, length, take, drop, Option, Some, None, sym, ◌∙◌, ap, subst, arith, length-append, length-take}
-use Rattle.std.proofs.lemmas.List.{take_all, take-take, take-append-drop, drop-take}
+use Rattle.std.proofs.Common.{◌≡◌, ℕ, ◌+◌, ◌-◌, ◌≤◌, List, ◌++◌, length, take, drop, Option, Some, None, sym, ◌∙◌, ap, subst, arith, length-append, length-take}
+use Rattle.std.proofs.lemmas.List.{take-take, take-append-drop, drop-take}
 use Rattle.medium_model.specs.Content.{Content}
 use Rattle.medium_model.specs.State.{IfTold}
 
@@ -21,12 +21,3 @@ read-more (Some c) now file piece more at count was same place within bytes is =
     ∙ ap (λ (l : List ℕ). l ++ take count piece) was
     ∙ ap (λ (l : List ℕ). take (length file) c.reads ++ l) (subst P same bytes ∙ ap (λ k. take count (drop k c.reads)) place)
     ∙ take-more (length file) count c.reads ∙ ap (λ k. take k c.reads) (sym size)
-
--- where a piece has no bytes the file is read
-pub read-all : (o now : Option Content) (file : List ℕ) (at count room : ℕ) → IfTold o (λ c. file ≡ take (length file) c.reads) → now ≡ o → at ≡ length file → 0 < room
-    → count ≡ 0 → IfTold now (λ c. count ≡ min room (length c.reads - at)) → IfTold o (λ c. file ≡ c.reads)
-read-all None now file at count room was same place some none counted = tt
-read-all (Some c) now file at count room was same place some none counted =
-    let P : Option Content → Type 0 = λ o. IfTold o (λ c. count ≡ min room (length c.reads - at)) in
-    let left = subst P same counted in
-    was ∙ take_all (length file) c.reads (omega arith)

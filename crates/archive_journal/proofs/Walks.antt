@@ -207,6 +207,3 @@ stand-read es more e gate size file s is e_is size_is more_is =
     let R : List EntryValue → Type 0 = λ l. StandIn l (gate + size) file in
     let more_all : more ≡ es ++ entry_in (body_at (drop gate file)) ∷ [] = more_is ∙ ap (λ (x : EntryValue). es ++ x ∷ []) (e_is ∙ ap (λ (l : List ℕ). entry_in (body_at l)) rest) in
     subst R (sym more_all) (subst Q (sym (size_is ∙ ap size_at rest)) (file-more es gate file s (subst P rest is)))
-
-pub last-read : (gate : ℕ) (file : List ℕ) → is_entry (take (length file - gate) (drop gate file)) ≡ false → is_entry (drop gate file) ≡ false
-last-read gate file is = let P : List ℕ → Type 0 = λ l. is_entry l ≡ false in subst P (take_rest file gate) is

@@ -5,7 +5,7 @@ use Rattle.shelf.specs.Admits.{Shelved}
 use Rattle.shelf.specs.Entries.{counting}
 use Rattle.desk.specs.declared.desk.Desk.{Desk}
 use Rattle.desk.specs.declared.desk.Seat.{Seat}
-use Rattle.desk.specs.Views.{view, IsAlone}
+use Rattle.desk.specs.Views.{view}
 use Rattle.desk.specs.Views.Stage.{Idle}
 use Rattle.desk.specs.Steps.{Place, kept_half, given_half}
 use Rattle.desk.specs.Desks.{IsNewSeat, AreNewSeats}
@@ -18,13 +18,6 @@ pub record IsDealing (o : Shelved) (seats given : ℕ) (m : Place) : Type 0 wher
   pub is : m ≡ (view o [] (counting given left) Idle 0, [])
 
 module _ (o : Shelved) (seats given : ℕ) (m : Place) (dealing : IsDealing o seats given m) where
-  pub deal-alone : given < seats → IsAlone Idle m.0
-  deal-alone more = split dealing.left dealing.sum dealing.is
-    where
-      split : (left : ℕ) → given + left ≡ seats → m ≡ (view o [] (counting given left) Idle 0, []) → IsAlone Idle m.0
-      split zero sum is = absurd (omega arith)
-      split (suc left) sum is = subst (λ (p : Place). IsAlone Idle p.0) (sym is) (record { at = refl; no_seen = refl; no_numbers = refl; numbered = omega arith })
-
   pub deal-next : (n : ℕ) (next : Place) → n ≡ given + 1 → given < seats → next ≡ (kept_half m.0, m.1) → IsDealing o seats n next
   deal-next n next one more kept = split dealing.left dealing.sum dealing.is
     where
@@ -53,10 +46,6 @@ module _ (o : Shelved) (seats given : ℕ) (m : Place) (dealing : IsDealing o se
       split (suc zero) sum is = is
       split (suc (suc left)) sum is = absurd (omega arith)
 
--- a seat with one number, from its place
-pub place-alone : (o : Shelved) (n : ℕ) (m : Place) → m ≡ (view o [] (n ∷ []) Idle 0, []) → IsAlone Idle m.0
-place-alone o n m is = subst (λ (p : Place). IsAlone Idle p.0) (sym is) (record { at = refl; no_seen = refl; no_numbers = refl; numbered = omega arith })
-
 pub get-snoc : {A : Type 0} (xs : List A) (x y : A) (k : ℕ) → slice_get (xs ++ x ∷ []) k ≡ Some y → (slice_get xs k ≡ Some y) ⊎ ((k ≡ length xs) × (x ≡ y))
 get-snoc [] x y zero at = inr (refl, some-same x y at)
 get-snoc [] x y (suc k) at = absurd (let never : None ≡ Some y = at in cc)
@@ -71,6 +60,3 @@ module _ {M : Type 0} {d : Ghosts M} where
       let P : ℕ × Seat M d → Type 0 = λ p. IsNewSeat desk p.0 p.1 in
       subst P (λ i. (sym new.0 i, new.1 i)) is)
       (get-snoc seats seat s k at)
-
-  pub seats-none : (desk : Desk M) (seats : List (Seat M d)) → seats ≡ [] → AreNewSeats desk seats
-  seats-none desk seats none k s at = absurd (let never : None ≡ Some s = ap (λ (l : List (Seat M d)). slice_get l k) (sym none) ∙ at in cc)

@@ -1,61 +1,28 @@
 -- A seat's turn: what it knows from the draw to the entry of its call.
-use Rattle.std.proofs.Common.{◌≡◌, ◌≢◌, ◌⊎◌, ◌↔◌, inl, inr, ℕ, ◌<◌, Bool, true, false, List, [], ◌∷◌, ◌++◌, length, Option, Some, None, Result, Ok, Err, refl, sym, ap, ◌∙◌, subst, arith}
+use Rattle.std.proofs.Common.{◌≡◌, ◌⊎◌, ◌↔◌, inl, inr, ℕ, ◌<◌, Bool, true, false, List, [], ◌∷◌, ◌++◌, length, Option, Some, None, Result, Ok, Err, refl, sym, ap, ◌∙◌, subst, arith}
 use Rattle.avl_values.specs.Record.{Record}
 use Rattle.record_layout.specs.RecordsOf.{records_of}
 use Rattle.shelf.specs.Archive.{StoredValue}
 use Rattle.shelf.specs.Admits.{Shelved, Answer, answer_of, down_after, Fits}
 use Rattle.shelf.specs.Calls.{Brought, brought_by, no_mark, down_by}
-use Rattle.shelf.specs.Entries.{Entry, entry, all_brought, IsLegalLog, StandsAfter, AreCountedIn, StartsWith, times, calls_by}
+use Rattle.shelf.specs.Entries.{Entry, entry, all_brought, IsLegalLog, StandsAfter, AreCountedIn, times}
 use Rattle.shelf.specs.Histories.{IsCounted, AreCounted, IsLegalFor, StandsFor}
 use Rattle.shelf.specs.Shelf.{ShelfView, front, Leaves, IsMediumFault}
 use Rattle.shelf.specs.declared.receipt.Receipt.{Receipt}
 use Rattle.shelf.specs.declared.receipt.AdmitFault.{AdmitFault}
 use Rattle.shelf.specs.declared.receipt.AdmitFault.TheVariants.{Down, NoMemory, MediumFault}
 use Rattle.shelf.proofs.Histories.{stands-snoc, legal-snoc}
-use Rattle.desk.specs.Views.{View, view, IsAlone, first_number}
-use Rattle.desk.specs.Views.Stage.{Idle, Waiting, Holding}
+use Rattle.desk.specs.Views.{View, IsAlone, first_number}
+use Rattle.desk.specs.Views.Stage.{Idle}
 use Rattle.desk.specs.Seen.{Extends}
-use Rattle.desk.specs.Steps.{Place, Drawn, HasTurn, Looked, Published}
+use Rattle.desk.specs.Steps.{Place, HasTurn, Published}
 use Rattle.desk.specs.Refusals.{HasFault, before_last, IsDown, CarriesAbove, TellsNoFault, AllFaultless}
 use Rattle.desk.proofs.Views.{times-own}
 use Rattle.desk.proofs.Histories.{calls_by-append, calls_by-one}
 
 -- Waiting.
 
-pub drawn-alone : (old : Place) (found : ℕ) (new : Place) → IsAlone Idle old.0 → Drawn old found new → IsAlone Waiting new.0
-drawn-alone old found new alone drawn =
-    subst (IsAlone Waiting) (sym (ap (λ (p : Place). p.0) drawn.waits)) (record { at = refl; no_seen = refl; no_numbers = refl; numbered = alone.numbered })
-
-pub drawn-bare : (old : Place) (found : ℕ) (new : Place) → Drawn old found new → new.1 ≡ old.1
-drawn-bare old found new drawn = ap (λ (p : Place). p.1) drawn.waits
-
--- the turn came to a seat that waited
-pub turn-comes : (old mid new : Place) (ticket found : ℕ) → Drawn old ticket mid → Looked mid found new → found ≡ ticket → HasTurn old new
-turn-comes old mid new ticket found drawn looked is =
-    let turn = looked.turn (is ∙ sym drawn.ticket) in
-    let P : Place → Type 0 = λ p. new.0 ≡ view p.0.opening new.0.seen p.0.numbers Holding new.0.ticket in
-    let Q : Place → Type 0 = λ p. StartsWith new.0.seen p.0.seen in
-    let R : Place → Type 0 = λ p. IsLegalLog p.0.opening new.0.seen in
-    let S : Place → Type 0 = λ p. calls_by p.0.numbers new.0.seen ≡ calls_by p.0.numbers p.0.seen in
-    let T : Place → Type 0 = λ p. StandsAfter p.0.opening new.0.seen (front turn.shelf) in
-    record {
-      holds = subst P drawn.waits turn.holds;
-      begins = subst Q drawn.waits turn.begins;
-      legal = subst R drawn.waits turn.legal;
-      mine = subst S drawn.waits turn.mine;
-      shelf = turn.shelf;
-      took = turn.took;
-      stands = subst T drawn.waits turn.stands;
-    }
-
--- it did not come yet
-pub still-waits : (old mid new : Place) (ticket found : ℕ) → Drawn old ticket mid → Looked mid found new → found ≢ ticket → Drawn old ticket new
-still-waits old mid new ticket found drawn looked ne = subst (Drawn old ticket) (sym (looked.wait (λ e. ne (e ∙ drawn.ticket)))) drawn
-
 -- Holding the shelf.
-
-pub turn-alone : (old new : Place) → IsAlone Idle old.0 → HasTurn old new → IsAlone Holding new.0
-turn-alone old new alone turn = subst (IsAlone Holding) (sym turn.holds) (record { at = refl; no_seen = refl; no_numbers = refl; numbered = alone.numbered })
 
 abbrev held : List (ℕ × Option ShelfView) → Option ShelfView
 held [] = None

@@ -8,7 +8,7 @@ use native.Mathlib.Decide.{ℕ_discrete}
 use lib.ListN.{get_elem?}
 use Rattle.atomic_table.proofs.Lists.{at_set, at_snoc, set_else}
 use Rattle.shelf.specs.Entries.{times, counting}
-use Rattle.desk.specs.Views.{Stage, View, view, IsAlone, all_numbers, first_number, total, busy, share, has}
+use Rattle.desk.specs.Views.{Stage, View, IsAlone, all_numbers, first_number, total, busy, share, has}
 use Rattle.desk.specs.Views.Stage.{Idle, Holding}
 use Rattle.desk.specs.Rule.{NobodyHolds, TicketsDiffer}
 use Rattle.desk.proofs.Totals.{total_set}
@@ -45,9 +45,6 @@ length-counting i (suc k) = ap suc (length-counting (suc i) k)
 module _ (stage : Stage) (v : View) (alone : IsAlone stage v) where
   pub numbers-alone : all_numbers v ≡ v.numbers ++ []
   numbers-alone = ap (λ ms. v.numbers ++ ms) alone.no_numbers
-
-  pub view-alone : v ≡ view v.opening v.seen v.numbers stage v.ticket
-  view-alone = λ i. record { opening = v.opening; seen = v.seen; numbers = v.numbers; other_seen = alone.no_seen i; other_numbers = alone.no_numbers i; stage = alone.at i; ticket = v.ticket }
 
   pub share-alone : share v ≡ length v.numbers
   share-alone = ap length (numbers-alone ∙ append-nil v.numbers)

@@ -1,14 +1,11 @@
 -- What is true of a device after each of its lines.
-use Rattle.std.proofs.Common.{◌≡◌, ℕ, ◌+◌, ◌≤◌, ◌^◌, Bool, true, false, List, [], ◌∷◌, length, fold, Option, Some, None, sym, ap, ◌∙◌, subst, arith, length-append}
+use Rattle.std.proofs.Common.{◌≡◌, ℕ, ◌+◌, ◌≤◌, Bool, true, false, List, [], ◌∷◌, length, fold, Option, Some, None, sym, ap, ◌∙◌, subst, arith, length-append}
 use Rattle.acquisition.specs.Deciding.{decided, is_due, plain_if}
-use Rattle.acquisition.specs.Elements.{ValuesFit}
 use Rattle.acquisition.specs.Settings.{AcquisitionSettings}
 use Rattle.acquisition.specs.Watching.{Watching, powered_up}
 use Rattle.acquisition.specs.declared.fix.Fix.{Fix}
 use Rattle.avl_values.specs.Record.{Record}
-use Rattle.flash_ring.specs.Ring.{EverySound}
 use Rattle.io_operands.specs.declared.setting.IoSetting.{IoSetting}
-use Rattle.medium_model.specs.Images.{IsSame}
 use Rattle.trial_model.specs.Decisions.{LineProgress, after_fix, before_all, decide_one}
 use Rattle.trial_model.specs.Script.{Device, settings_of}
 use Rattle.trial_device.specs.SideLines.{PowersSide}
@@ -16,7 +13,6 @@ use Rattle.trial_device.specs.Sides.{Side}
 use Rattle.trial_device.specs.Starting.{StartsSide}
 use Rattle.trial_device.specs.Storing.{FixesSide}
 use Rattle.trial_device.proofs.Fixing.{side-fixed}
-use Rattle.trial_device.proofs.Images.{each-sound}
 use Rattle.trial_device.proofs.Powering.{side-fused, side-powered}
 use Rattle.trial_device.proofs.Starting.{side-starts}
 use Rattle.device_rows.specs.Played.{IsPlayed}
@@ -67,22 +63,6 @@ played-fused n calls d e p is =
     subst (IsPlayed (n + 1)) (sym is) fused
 
 -- What the calls of a line ask for.
-
-pub played-sound : (n : ℕ) (d : Side) → IsPlayed n d → EverySound d.ring
-played-sound n d p = each-sound d.ring (IsSame d.ring.slots) p.sound.durable.medium.same
-
-pub played-values : (n : ℕ) (d : Side) (values : List ℕ) → IsPlayed n d → values ≡ [] → ValuesFit d.device.settings values
-played-values n d values p none =
-    let P : List IoSetting → Type 0 = λ ios. ValuesFit ios values in
-    let Q : List ℕ → Type 0 = λ vs. ValuesFit [] vs in
-    subst P (sym p.plain) (subst Q (sym none) tt)
-
-pub played-short : (d : Side) (fix : Fix) → IsPlayed (2 ^ 32) d → d.ring.next + length (decided (settings_of d.device) d.watching fix).records ≤ 2 ^ 63
-played-short d fix p =
-    let one = one-record (settings_of d.device) d.watching fix p.plain in
-    let next = p.sound.next in
-    let few = p.few in
-    omega arith
 
 pub played-more : (k n : ℕ) (d : Side) → k ≤ n → IsPlayed k d → IsPlayed n d
 played-more k n d low p = record { history = p.history; sound = p.sound; few = (let few = p.few in omega arith); plain = p.plain }

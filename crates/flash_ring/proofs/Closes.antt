@@ -32,16 +32,6 @@ has-here x j rest same = let P : Bool → Type 0 = λ b. IsTrue (b || rest) in s
 pub has-there : (x j : ℕ) (rest : Bool) → IsTrue rest → IsTrue ((x == j) || rest)
 has-there x j rest is = elim (x == j) as (λ b. IsTrue (b || rest)) [ true ↦ refl | false ↦ is ]
 
-pub has_slot-push : (ks : List ℕ) (k j : ℕ) → IsTrue (has_slot (ks ++ k ∷ []) j) → IsTrue (has_slot ks j) ⊎ (k ≡ j)
-has_slot-push [] k j is = elim (has-cases k j false is) as (λ _. IsTrue false ⊎ (k ≡ j)) [ inl same ↦ inr same | inr never ↦ absurd (false≢true never) ]
-has_slot-push (x ∷ ks) k j is = elim (has-cases x j (has_slot (ks ++ k ∷ []) j) is) as (λ _. IsTrue (has_slot (x ∷ ks) j) ⊎ (k ≡ j)) [
-  | inl same ↦ inl (has-here x j (has_slot ks j) same)
-  | inr later ↦ elim (has_slot-push ks k j later) as (λ _. IsTrue (has_slot (x ∷ ks) j) ⊎ (k ≡ j)) [
-    | inl there ↦ inl (has-there x j (has_slot ks j) there)
-    | inr last ↦ inr last
-  ]
-]
-
 pub has_slot-push_old : (ks : List ℕ) (k j : ℕ) → IsTrue (has_slot ks j) → IsTrue (has_slot (ks ++ k ∷ []) j)
 has_slot-push_old [] k j is = absurd (false≢true is)
 has_slot-push_old (x ∷ ks) k j is = elim (has-cases x j (has_slot ks j) is) as (λ _. IsTrue (has_slot (x ∷ ks ++ k ∷ []) j)) [
@@ -188,9 +178,6 @@ module _ (n : ℕ) (before : List (Option Held)) (ks : List ℕ) (base : List �
   }
 
   module _ (reads : List ℕ) (was : ReadsShut n before ks base reads) where
-    new_reads : List ℕ
-    new_reads = written 0 (272 * k) (0 ∷ []) reads
-
     reads-outside : SameOutside (272 * k) 1 reads (written 0 (272 * k) (0 ∷ []) reads)
     reads-outside = written-outside (272 * k) (0 ∷ []) reads (let size = shut.flash.size in omega (arith, gate_fits, was.flash.size))
 
@@ -218,21 +205,6 @@ module _ (n : ℕ) (before : List (Option Held)) (ks : List ℕ) (base : List �
 abbrev pub Shut : ℕ → List (Option Held) → List ℕ → Option Content → Option Content → Type 0
 Shut n before ks None now = now ≡ None
 Shut n before ks (Some first) now = (c : Content) × (now ≡ Some c) × GatesShut n before ks first.reads c × ReadsShut n before ks first.reads c.reads
-
-pub shut-first : (n : ℕ) (before : List (Option Held)) (told0 : Option Content) → IfTold told0 (IsSettled n before) → Shut n before [] told0 told0
-shut-first n before None was = refl
-shut-first n before (Some c) was = (
-  c,
-  refl,
-  record {
-    flash = was.sound;
-    holds = was.holds;
-    durable = ap (λ (d : Content). d.durable) was.rest;
-    ends = let e = ap (λ (d : Content). length d.dirty) was.rest in omega (arith, e);
-    gates = λ p marked. absurd (false≢true (sym (ap (λ (d : Content). get_or d.dirty p false) was.rest) ∙ marked));
-  },
-  record { flash = was.sound; holds = was.holds; others = λ j out. refl },
-)
 
 pub shut-more : (n : ℕ) (before : List (Option Held)) (ks : List ℕ) (told0 told1 told2 : Option Content) (k : ℕ) → k < n → Shut n before ks told0 told1
     → told2 ≡ told (after_write (272 * k) (0 ∷ [])) told1 → Shut n before (ks ++ k ∷ []) told0 told2

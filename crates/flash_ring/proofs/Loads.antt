@@ -15,10 +15,6 @@ pub record HasRead (done : ℕ) (content : Option Content) (slots : List (Option
   pub flash : IfTold content (λ c. (k : ℕ) → k < done → IsSoundSlot (slot_bytes k c.reads))
   pub holds : IfTold content (λ c. (k : ℕ) → k < done → get_or slots k None ≡ slot_of (slot_bytes k c.reads))
 
-pub read-first : (content : Option Content) (slots : List (Option Held)) → HasRead 0 content slots
-read-first None slots = record { sound = λ k h low. absurd (omega arith); flash = tt; holds = tt }
-read-first (Some c) slots = record { sound = λ k h low. absurd (omega arith); flash = λ k low. absurd (omega arith); holds = λ k low. absurd (omega arith) }
-
 -- what a read of a whole slot gives
 pub slot-read : (content now : Option Content) (k count : ℕ) (into : List ℕ) → now ≡ content → count ≡ 272
     → IfTold now (λ c. take count into ≡ take count (drop (272 * k) c.reads)) → IfTold content (λ c. take count into ≡ slot_bytes k c.reads)

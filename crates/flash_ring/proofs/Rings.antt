@@ -6,10 +6,10 @@ use Rattle.std.proofs.lemmas.Option.{get_or_from_slice_get, slice_get_within, sl
 use Rattle.medium_model.specs.State.{MediumState, IfTold}
 use Rattle.record_codecs.specs.SomeRecord.{IsSomeRecord}
 use Rattle.flash_ring.specs.Held.{Held, IsSoundHeld, AreSound, AreBelow, first_closed, is_full, next_of, closed_all, rec_in, rec_at}
-use Rattle.flash_ring.specs.Images.{IsSettled, AreOpen}
+use Rattle.flash_ring.specs.Images.{IsSettled}
 use Rattle.medium_model.specs.Images.{IsEither, IsSame, unchanged}
 use Rattle.flash_ring.specs.Ring.{RingView, IsUp, IsRing, IsDurable, EachHolds}
-use Rattle.flash_ring.proofs.Closes.{length-closed_all, only_here, holds-map}
+use Rattle.flash_ring.proofs.Closes.{length-closed_all, holds-map}
 use Rattle.avl_values.specs.declared.order.Order.TheVariants.{Oldest}
 use Rattle.flash_ring.specs.Entries.{Entry, IsOldest, entries_of, first_slot, held_of, rec_of, with_room, without_first}
 use Rattle.flash_ring.proofs.Entries.{Each, IsEntry, entries-open, oldest_there}
@@ -219,9 +219,6 @@ pub oldest_first : (slots : List (Option Held)) (k : ℕ) (x : Option Held) (h :
 oldest_first slots k x h is read some =
     let same : is.held ≡ h = (let e : Some is.held ≡ Some h = sym (oldest_some slots k x is read) ∙ some in cc) in
     is.first ∙ ap (λ (y : Held). y.rec ∷ drop 1 (held_of slots)) same
-
-pub oldest_opens : (slots : List (Option Held)) (k : ℕ) → IsOldest slots k → AreOpen (k ∷ []) slots
-oldest_opens slots k is j has = (is.held, ap (slice_get slots) (sym (only_here k j has)) ∙ is.open_slot)
 
 pub oldest_room : (slots : List (Option Held)) (k : ℕ) → IsOldest slots k → is_full (set slots k None) ≡ false
 oldest_room slots k is =

@@ -7,7 +7,6 @@ use Rattle.avl_values.specs.declared.order.Order.TheVariants.{Oldest}
 use Rattle.flash_ring.specs.Entries.{Entry, entries_of, with_room, without_first}
 use Rattle.flash_ring.specs.Held.{Held, AreBelow, closed_all, first_closed, is_full, put_in}
 use Rattle.flash_ring.specs.Images.{HoldsWith, MayClose}
-use Rattle.medium_model.specs.Images.{IsEither, unchanged, changed}
 use Rattle.flash_ring.specs.Records.{HasDistinctSeqs}
 use Rattle.flash_ring.specs.Ring.{RingView, EachHolds, MayHold}
 use Rattle.flash_ring.specs.Slot.{slot_bytes, slots_of}
@@ -90,13 +89,6 @@ distinct-with_room slots were =
     of_entries : (es : List Entry) → HasDistinctSeqs (without_first es slots)
     of_entries [] = were
     of_entries (e ∷ es) = distinct-closed (e.slot ∷ []) slots were
-
--- the slots before, or those after
-pub distinct-either : (before after left : List (Option Held)) → IsEither before after left → HasDistinctSeqs before → HasDistinctSeqs after → HasDistinctSeqs left
-distinct-either before after left either were are = elim either as (λ _. HasDistinctSeqs left) [
-  | unchanged same ↦ subst HasDistinctSeqs (sym same) were
-  | changed same ↦ subst HasDistinctSeqs (sym same) are
-]
 
 -- What each image of a ring over a medium that tells its content has, is true of what a restart may hold.
 pub restart-has : (v : RingView) (P : List (Option Held) → Type 0) (left : List (Option Held)) → IsSome v.medium.content → EachHolds v P → MayHold v left → P left

@@ -1,9 +1,9 @@
 -- A flash slot by slot.
-use Rattle.std.proofs.Common.{◌≡◌, ◌≢◌, inl, inr, ℕ, ◌+◌, ◌-◌, ◌*◌, ◌<◌, ◌≤◌, ◌^◌, min, if◌then◌else◌, Bool, false, List, [], ◌∷◌, ◌++◌, length, get_or, take, drop, replicate, Option, Some, None, Result, Ok, Err, IsOk, OnOk, sym, ◌∙◌, ap, refl, subst, arith, eqb, length-take, length-drop}
+use Rattle.std.proofs.Common.{◌≡◌, ◌≢◌, inl, inr, ℕ, ◌+◌, ◌-◌, ◌*◌, ◌<◌, ◌≤◌, ◌^◌, min, if◌then◌else◌, Bool, false, List, [], ◌∷◌, ◌++◌, length, get_or, take, drop, replicate, Option, Some, None, sym, ◌∙◌, ap, refl, subst, arith, eqb, length-take, length-drop}
 use Rattle.std.specs.Int.{w64, to_be_bytes, from_be_bytes}
-use Rattle.std.proofs.lemmas.Bool.{cases_eq, eq-eqb, false≢true}
+use Rattle.std.proofs.lemmas.Bool.{cases_eq, eq-eqb}
 use Rattle.std.proofs.lemmas.Bool.Decides.{eqb_tells}
-use Rattle.std.proofs.lemmas.List.{append_assoc, ext_get_or, get_or-take, get_or-drop, take_at, drop_at}
+use Rattle.std.proofs.lemmas.List.{ext_get_or, get_or-take, get_or-drop, take_at, drop_at}
 use Rattle.std.proofs.lemmas.List.FromFn.{length-map-range_with_len, get_or-map-range_with_len}
 use Rattle.std.proofs.lemmas.Nat.{from_be_bytes-to_be_bytes_8}
 use Rattle.avl_values.specs.declared.codec.Codec.{Codec}
@@ -84,15 +84,3 @@ slot_of-layout h fits seq =
     slot_of-open bytes refl ∙ fields
     ∙ ap (λ n. Some (record { seq = n; rec = record { codec = h.rec.codec; bytes = take (length h.rec.bytes) (drop 8 (words ++ tail)) } })) seq_is
     ∙ ap (λ b. Some (record { seq = h.seq; rec = record { codec = h.rec.codec; bytes = b } })) rec_is
-
--- what a clause says of an answer that is known to be Ok
-pub known_ok : {T E P : Type 0} (r : Result T E) → IsOk r → OnOk r P → P
-known_ok (Ok x) is p = p
-known_ok (Err e) is p = absurd (false≢true is)
-
--- a body, part after part
-pub laid_out : (id len : ℕ) (words rec unused a b c d e : List ℕ) → a ≡ [] ++ id ∷ [] → b ≡ a ++ len ∷ [] → c ≡ b ++ words → d ≡ c ++ rec → e ≡ d ++ unused
-    → e ≡ id ∷ len ∷ words ++ (rec ++ unused)
-laid_out id len words rec unused a b c d e is_a is_b is_c is_d is_e =
-    is_e ∙ ap (λ xs. xs ++ unused) (is_d ∙ ap (λ xs. xs ++ rec) (is_c ∙ ap (λ xs. xs ++ words) (is_b ∙ ap (λ xs. xs ++ len ∷ []) is_a)))
-    ∙ append_assoc (id ∷ len ∷ words) rec unused

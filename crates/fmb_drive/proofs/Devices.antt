@@ -2,7 +2,6 @@
 use Rattle.std.proofs.Common.{◌≡◌, ◌==◌, ◌+◌, ◌<◌, ◌≤◌, ℕ, suc, Bool, true, false, if◌then◌else◌, List, [], ◌∷◌, ◌++◌, length, take, drop, Option, Some, None, refl, sym, ap, subst, ◌∙◌}
 use Rattle.std.specs.Prelude.{option_map, slice_get}
 use Rattle.std.specs.List.{AllByRecursion, cons_option, filter_map}
-use Rattle.std.proofs.lemmas.List.{take_all}
 use Rattle.std.proofs.lemmas.List.Elements.{filter_map-append}
 use Rattle.acquisition.specs.Checking.{setting_fault}
 use Rattle.acquisition.specs.Elements.{ValuesFit}
@@ -11,7 +10,7 @@ use Rattle.acquisition.specs.declared.settings.SettingFault.{SettingFault}
 use Rattle.avl_values.specs.declared.codec.Codec.{Codec}
 use Rattle.avl_values.specs.declared.order.Order.{Order}
 use Rattle.fmb_drive.proofs.Places.{finds_more, line_here, lines_parted}
-use Rattle.fmb_drive.specs.Drive.{device_in, first_of}
+use Rattle.fmb_drive.specs.Drive.{first_of}
 use Rattle.fmb_drive.specs.Scripts.{FixesFit, IsDevice, IsFirstDevice}
 use Rattle.io_operands.specs.declared.setting.IoSetting.{IoSetting}
 use Rattle.journey_script.proofs.ScriptLaws.{script_laws}
@@ -30,12 +29,6 @@ first_found : {Y : Type 0} (f : ScriptLine → Option Y) (before after : List Sc
     → filter_map f (before ++ line ∷ after) ≡ y ∷ filter_map f after
 first_found {Y} f before after line y none is =
     filter_map-append f before (line ∷ after) ∙ ap (λ (ys : List Y). ys ++ filter_map f (line ∷ after)) none ∙ cons_found (f line) y (filter_map f after) is
-
--- no `device` line stands among the lines
-pub no_device : (script : Script) (i : ℕ) → length script ≤ i → filter_map (device_on (lines_of script)) (lines_of (take i script)) ≡ [] → device_in script ≡ None
-no_device script i past none =
-    let whole : devices_of (lines_of script) ≡ [] = ap (λ (s : Script). filter_map (device_on (lines_of script)) (lines_of s)) (sym (take_all i script past)) ∙ none in
-    ap first_of whole
 
 device_there : (script : Script) (i : ℕ) (f : IsFirstDevice script i) → devices_of (lines_of script) ≡ f.d ∷ filter_map (device_on (lines_of script)) (lines_of (drop (suc i) script))
 device_there script i f =

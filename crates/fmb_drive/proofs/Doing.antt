@@ -22,7 +22,7 @@ use Rattle.fmb_drive.proofs.Progress.{does_more, prints_none, prints_one, same_l
 use Rattle.fmb_drive.specs.Halts.{Halts}
 use Rattle.fmb_drive.specs.Log.{Event, back_by, back_in, connected, given_by, given_in, round_line}
 use Rattle.fmb_drive.specs.Opening.{RefusesFlash}
-use Rattle.fmb_drive.specs.Runs.{Acquires, Begins, BeginsConnection, BeginsLine, BeginsStores, Connects, DoesLine, Driver, IsQuiet, PowersUp, Stage, StaysAt, Stores, WhereOwn, gives_up, lost_first, more, none}
+use Rattle.fmb_drive.specs.Runs.{Acquires, Begins, BeginsLine, BeginsStores, Connects, DoesLine, Driver, IsQuiet, PowersUp, Stage, StaysAt, Stores, WhereOwn, gives_up, lost_first, more, none}
 use Rattle.fmb_drive.specs.Scripts.{FixesFit}
 use Rattle.fmb_drive.specs.Steps.{DoesAll, DoesOne, MakesOne, MayPowerUp, StaysUp, StoresAll, driver}
 use Rattle.fmb_drive.specs.declared.stop.Stop.{Stop}
@@ -96,17 +96,6 @@ module _ (d : Driver) (n limit : ℕ) where
   line_connects (Line.Power who) a log b is c = absurd (cc)
   line_connects (Line.Fuse who calls tear) a log b is c = absurd (cc)
 
-  line_begins : (line : ScriptLine) (a : Stage) (log : List Event) (now : RingView) → limit_of line ≡ Some limit → BeginsConnection d.imei d.order n limit a.ring log now → BeginsLine d n line a log now
-  line_begins (Line.Device imei codec slots order period distance angle speed known) a log now is c = absurd (cc)
-  line_begins (Line.Setting imei setting) a log now is c = absurd (cc)
-  line_begins (Line.Fix imei fix) a log now is c = absurd (cc)
-  line_begins (Line.Round imei piece up down) a log now is c = subst (λ (k : ℕ). BeginsConnection d.imei d.order n k a.ring log now) (sym (same_limit 1 is)) c
-  line_begins (Line.Drain imei piece) a log now is c = subst (λ (k : ℕ). BeginsConnection d.imei d.order n k a.ring log now) (sym (same_limit 4294967295 is)) c
-  line_begins (Line.Late connection bytes) a log now is c = absurd (cc)
-  line_begins (Line.Close connection) a log now is c = absurd (cc)
-  line_begins (Line.Power who) a log now is c = absurd (cc)
-  line_begins (Line.Fuse who calls tear) a log now is c = absurd (cc)
-
   pub does_connect : (address : List ℕ) (line it : ScriptLine) (a b : Stage) (x y : HostView) → line ≡ it → limit_of it ≡ Some limit → b.watching ≡ a.watching → MakesOne address d.imei d.order n limit a.ring b.ring x y → DoesOne address d n line a b x y
   does_connect address line it a b x y same is watching m = record {
     log = connected m.c ∷ [];
@@ -120,11 +109,6 @@ module _ (d : Driver) (n limit : ℕ) where
     where
       after : b ≡ record a { ring = m.c.after }
       after = ap (λ (r : RingView). let s : Stage = record { ring = r; watching = b.watching } in s) m.after ∙ ap (λ (w : Watching). let s : Stage = record { ring = m.c.after; watching = w } in s) watching
-
-  pub connect_halts : (address : List ℕ) (s : Stop) (imei slots : ℕ) (line it : ScriptLine) (a : Stage) (x y : HostView) (old new : MediumState) → line ≡ it → limit_of it ≡ Some limit
-      → Halts address (BeginsConnection d.imei d.order n limit a.ring) s imei slots x y old new → Halts address (BeginsLine d n line a) s imei slots x y old new
-  connect_halts address s imei slots line it a x y old new same is h =
-      halts_map address (BeginsConnection d.imei d.order n limit a.ring) (BeginsLine d n line a) s imei slots x y old new (λ log now c. line_begins line a log now (ap limit_of same ∙ is) c) h
 
 -- ---- fixes
 

@@ -10,7 +10,7 @@ use Rattle.flash_ring.specs.Held.{is_full}
 use Rattle.flash_ring.specs.Ring.{RingView}
 use Rattle.fmb_drive.proofs.Flashing.{run_passed}
 use Rattle.fmb_drive.proofs.Halting.{flash_failed, halts_after, halts_at_sink, halts_quiet}
-use Rattle.fmb_drive.proofs.Progress.{prints_none, run_none, stores_more}
+use Rattle.fmb_drive.proofs.Progress.{run_none, stores_more}
 use Rattle.fmb_drive.specs.Halts.{Halts}
 use Rattle.fmb_drive.specs.Log.{Event, drive_text, lost, lost_line}
 use Rattle.fmb_drive.specs.Runs.{BeginsStores, MayGiveUp, Stores, gives_up, lost_first}
@@ -29,15 +29,8 @@ use Rattle.tracker_session.specs.declared.kept.KeepFault.TheVariants as fault
 use Rattle.tracker_session.specs.declared.kept.Kept.{Kept}
 use Rattle.tracker_session.specs.Trackers.{IsSameDevice, TrackerView}
 
-pub gives_none : (v : RingView) → is_full v.slots ≡ false → gives_up v ≡ []
-gives_none v e = ap (λ (b : Bool). if b then lost_first (held_of v.slots) else []) e
-
 pub gives_one : (v : RingView) (r : Record) (rs : List Record) → is_full v.slots ≡ true → held_of v.slots ≡ r ∷ rs → gives_up v ≡ lost r ∷ []
 gives_one v r rs e held = ap (λ (b : Bool). if b then lost_first (held_of v.slots) else []) e ∙ ap lost_first held
-
--- no line is printed where the ring has room, and one where it is full
-pub prints_room : (imei : ℕ) (v : RingView) (x y : HostView) → is_full v.slots ≡ false → y ≡ x → PrintsWhole (drive_text imei (gives_up v)) x y
-prints_room imei v x y e same = subst (λ (log : List Event). PrintsWhole (drive_text imei log) x y) (sym (gives_none v e)) (subst (λ (h : HostView). PrintsWhole (drive_text imei []) x h) (sym same) (prints_none imei x))
 
 -- the others are as they were
 pub sinks_only : (x y : HostView) → y ≡ record x { sink = y.sink } → y ≡ record x { sink = y.sink; wires = y.wires }

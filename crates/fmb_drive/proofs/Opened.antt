@@ -2,9 +2,8 @@
 use Rattle.std.proofs.Common.{◌≡◌, ℕ, false, List, [], ◌∷◌, length, refl, sym, subst, arith}
 use Rattle.std.specs.Prelude.{Err, IfErr, Ok, Result}
 use Rattle.acquisition.specs.Watching.{Acquiring, powered_up}
-use Rattle.flash_ring.specs.Entries.{held_of}
 use Rattle.flash_ring.specs.Refusal.{Refuses}
-use Rattle.flash_ring.specs.Ring.{IsDurable, RingView}
+use Rattle.flash_ring.specs.Ring.{RingView}
 use Rattle.flash_ring.specs.declared.load.ReopenFault.TheVariants as fault
 use Rattle.fmb_drive.proofs.Halting.{halts_quiet}
 use Rattle.fmb_drive.specs.Drive.{CameTo, Opens, broken_off, start, unopened}
@@ -12,7 +11,7 @@ use Rattle.fmb_drive.specs.Ending.{StopsOn}
 use Rattle.fmb_drive.specs.Halts.{Halts}
 use Rattle.fmb_drive.specs.Opening.{RefusesFlash}
 use Rattle.fmb_drive.specs.Runs.{Begins, Driver}
-use Rattle.fmb_drive.specs.Steps.{DoesAll, DrovePlain, driver, stage}
+use Rattle.fmb_drive.specs.Steps.{driver, stage}
 use Rattle.fmb_drive.specs.declared.stop.Stop.{Stop}
 use Rattle.fmb_host.specs.Host.{HostView}
 use Rattle.medium_model.specs.State.{IfTold, IsRun, MediumState}
@@ -60,24 +59,6 @@ stops_begun address s d slots script given home opening x y opens run size h = r
 module _ (address : List ℕ) (d : Driver) (slots : ℕ) (script : Script) (given : MediumState) (opening : RingView) (t u : TrackerView) (p q : Acquiring) (x y : HostView)
     (tracker : t ≡ record { imei = d.imei; ring = opening; order = d.order; talking = false; answered = false; batch = []; have = [] }) (acquirer : p ≡ record { settings = d.settings; watching = powered_up })
     (opens : Opens slots given opening) (run : IsRun given opening.medium ⊥) where
-  -- the script was done
-  pub plays_plain : (home : MediumState) (count : ℕ) → DoesAll address (driver t p) script (stage t p) (stage u q) x y → home ≡ u.ring.medium → count ≡ length (held_of u.ring.slots) → (u.ring.down ≡ false → IsDurable u.ring)
-      → DrovePlain address d slots script given home count x y
-  plays_plain home count does back held durable = record {
-    opening = opening;
-    closing = stage u q;
-    opens = opens;
-    first = run;
-    does = does_here;
-    back = back;
-    open_slots = held;
-    durable = durable does_here.stays.up;
-  }
-    where
-      does_here : DoesAll address d script (start opening) (stage u q) x y
-      does_here = subst (λ (v : TrackerView). DoesAll address (driver v (let a : Acquiring = record { settings = d.settings; watching = powered_up } in a)) script (stage v (let a : Acquiring = record { settings = d.settings; watching = powered_up } in a)) (stage u q) x y) tracker
-          (subst (λ (a : Acquiring). DoesAll address (driver t a) script (stage t a) (stage u q) x y) acquirer does)
-
   -- it was broken off
   pub plays_stopped : (s : Stop) (home : MediumState) → length opening.slots ≡ slots → home ≡ u.ring.medium → Halts address (Begins (driver t p) script (stage t p)) s t.imei (length t.ring.slots) x y t.ring.medium u.ring.medium → StopsOn address s d slots script given home x y
   plays_stopped s home size back h = subst (λ (m : MediumState). StopsOn address s d slots script given m x y) (sym back)

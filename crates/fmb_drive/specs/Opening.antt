@@ -4,7 +4,6 @@ use Rattle.avl_values.specs.Causes.{Rose}
 use Rattle.flash_ring.specs.Refusal.{Refuses}
 use Rattle.flash_ring.specs.declared.load.OpenFault.{OpenFault}
 use Rattle.flash_ring.specs.declared.load.OpenFault.TheVariants as open_
-use Rattle.flash_ring.specs.declared.load.ReopenFault.{ReopenFault}
 use Rattle.flash_ring.specs.declared.load.ReopenFault.TheVariants as again
 use Rattle.fmb_drive.specs.Drive.{formatted}
 use Rattle.fmb_drive.specs.declared.stop.Stop.{Stop}
@@ -23,11 +22,6 @@ stop_of open_.MediumFault = stop.MediumFault
 stop_of (open_.WrongSize got wanted) = stop.Size got wanted
 stop_of (open_.BadSlot slot) = stop.Slot slot
 stop_of open_.NoMemory = stop.NoMemory
-
-abbrev pub stop_again : ReopenFault → Stop
-stop_again again.MediumFault = stop.MediumFault
-stop_again (again.WrongSize got wanted) = stop.Size got wanted
-stop_again (again.BadSlot slot) = stop.Slot slot
 
 -- why a flash of N slots isn't opened, as it was and is
 pub record RefusesFlash (s : Stop) (slots : ℕ) (old new : MediumState) : Type 0 where

@@ -5,7 +5,7 @@ use Rattle.doors.specs.MemoryDoors.{MemoryDoorState}
 use Rattle.text_streams.specs.Memory.{MemorySourceView, source_state}
 use Rattle.fmb_host.specs.Host.{TakesBack, TakesBackDoor, counted_once}
 use Rattle.fmb_host.specs.Memory.{MemoryHostView, QueueView, after_return, gate_state, host_view, return_to, returns_of, stock_of}
-use Rattle.fmb_host.specs.Stocks.{AsksFor, ComesBack, ComesFrom, GainsLast, Lends, LendsNamed, LendsNew, LosesFirst, LosesFront, Passes, PassesNamed, Regains, Returns, Stock, lends_one}
+use Rattle.fmb_host.specs.Stocks.{AsksFor, ComesBack, ComesFrom, GainsLast, Lends, LendsNamed, LosesFirst, LosesFront, Passes, PassesNamed, Regains, Returns, Stock, lends_one}
 
 -- no more names than were told
 no_more : (asked : Option (List (List ℕ))) → asked ≡ option_map (λ told. told ++ []) asked
@@ -133,26 +133,6 @@ module _ {T : Type 0} where
 
 -- what a host in memory does with its queues is told so
 module _ {S T : Type 0} (see : S → T) where
-  pub queue_lends : (old new : QueueView S) (item : S) → old.coming ≡ item ∷ new.coming → new ≡ record old { coming = new.coming; lent = suc old.lent } → Lends (stock_of see old) (see item) (stock_of see new)
-  queue_lends old new item first is = record {
-    first = ap (map see) first;
-    returns = ap (λ (q : QueueView S). returns_of see q.back q.lent) is ∙ lent_more old.back old.lent;
-  }
-    where
-      lent_more : (back : Option (List S)) (lent : ℕ) → returns_of see back (suc lent) ≡ lends_one (returns_of see back lent)
-      lent_more None lent = refl
-      lent_more (Some items) lent = refl
-
-  pub queue_lends_new : (old new : QueueView S) → new ≡ record old { lent = suc old.lent } → LendsNew (stock_of see old) (stock_of see new)
-  queue_lends_new old new is = record {
-    coming = ap (λ (q : QueueView S). Some (map see q.coming)) is;
-    returns = ap (λ (q : QueueView S). returns_of see q.back q.lent) is ∙ lent_more old.back old.lent;
-  }
-    where
-      lent_more : (back : Option (List S)) (lent : ℕ) → returns_of see back (suc lent) ≡ lends_one (returns_of see back lent)
-      lent_more None lent = refl
-      lent_more (Some items) lent = refl
-
   pub queue_regains : (old new : QueueView S) (item : S) → new ≡ after_return item old → Regains (stock_of see old) (see item) (stock_of see new)
   queue_regains old new item is = subst (λ (q : QueueView S). Regains (stock_of see old) (see item) (stock_of see q)) (sym is) (regained old.lent)
     where

@@ -1,5 +1,5 @@
 -- Things of one kind that a host hands out and takes back, as contracts see them (this project's own).
-use Rattle.std.specs.Prelude.{ℕ, zero, suc, ◌+◌, ◌≡◌, List, [], ◌∷◌, ◌++◌, length, map, replicate, Option, None, Some, option_map, ⊤}
+use Rattle.std.specs.Prelude.{ℕ, zero, suc, ◌+◌, ◌≡◌, List, [], ◌∷◌, ◌++◌, length, replicate, Option, None, Some, option_map, ⊤}
 
 -- those that came back, and how many are out
 pub record Returns (T : Type 0) : Type 0 where
@@ -11,13 +11,6 @@ pub record Stock (T : Type 0) : Type 0 where
   pub coming : Option (List T)
   pub returns : Option (Returns T)
   pub asked : Option (List (List ℕ))
-
--- the same things, each seen so
-abbrev pub seen_returns : {S T : Type 0} → (S → T) → Returns S → Returns T
-seen_returns see r = record { back = map see r.back; lent = r.lent }
-
-abbrev pub seen_stock : {S T : Type 0} → (S → T) → Stock S → Stock T
-seen_stock see stock = record { coming = option_map (map see) stock.coming; returns = option_map (seen_returns see) stock.returns; asked = stock.asked }
 
 module _ {T : Type 0} where
   -- a told list begins with the item, and loses it

@@ -1,17 +1,13 @@
 -- What is printed of a reading, over any rows.
-use Rattle.std.proofs.Common.{◌≡◌, ℕ, Bool, true, false, List, [], ◌∷◌, ◌++◌, refl, ap, ◌∙◌}
+use Rattle.std.proofs.Common.{◌≡◌, ℕ, Bool, true, List, [], ◌++◌, ap, ◌∙◌}
 use Rattle.std.specs.List.{flat_map}
 use Rattle.avl_values.specs.declared.fault.FaultKind.{FaultKind}
-use Rattle.layout.specs.Rows.{Rows, Verdict, short, fault}
+use Rattle.layout.specs.Rows.{Rows, Verdict, fault}
 use Rattle.item_streams.specs.Readers.{ReadsAs}
 use Rattle.item_streams.specs.Streams.{Item, Reading, reading_of}
 use Rattle.show_lines.specs.ItemTexts.{fault_text}
 use Rattle.show_lines.specs.Json.{as_line}
-use Rattle.fmb_show.specs.Shown.{Print, and_then, ended_by_fault, only, reading_print, rest_print, short_print}
-
-no_fault : (rest : List ℕ) (line : ℕ) → (short_print rest line).faulty ≡ false
-no_fault [] line = refl
-no_fault (byte ∷ more) line = refl
+use Rattle.fmb_show.specs.Shown.{and_then, ended_by_fault, only, reading_print, rest_print}
 
 abbrev pub item_lines : {V : Type 0} → (V → ℕ → List ℕ) → List (Item V) → ℕ → List ℕ
 item_lines lines items line = flat_map (λ item. lines item.value line) items
@@ -23,14 +19,6 @@ module _ {V : Type 0} (lines : V → ℕ → List ℕ) (rows : Bool → Rows V) 
   printed_by verdict reads =
       ap (λ (r : Reading V). reading_print lines (rows after_first) (rows true) r line) reads.is
       ∙ ap (λ (v : Verdict V). and_then (only (item_lines lines items line)) (rest_print v rest line)) reads.judged
-
-  -- a rest that is short
-  pub ends_short : ReadsAs rows after_first bytes items rest short
-      → let all = reading_print lines (rows after_first) (rows true) (reading_of (rows after_first) (rows true) 0 bytes) line in
-      (all.text ≡ item_lines lines items line ++ (short_print rest line).text) × (all.faulty ≡ false)
-  ends_short reads =
-      let e = printed_by short reads in
-      (ap (λ (p : Print). p.text) e, ap (λ (p : Print). p.faulty) e ∙ no_fault rest line)
 
   -- a rest that begins with a fault
   pub ends_broken : (kind : FaultKind) (place : ℕ) → ReadsAs rows after_first bytes items rest (fault kind place)

@@ -1,15 +1,15 @@
 -- A stream that is printed, over any rows: what stands of it after each push, and at its end.
-use Rattle.std.proofs.Common.{◌≡◌, ℕ, ◌+◌, ◌-◌, ◌≤◌, Bool, true, false, List, [], ◌++◌, length, take, drop, refl, sym, ap, subst, ◌∙◌, append_assoc, append-nil}
+use Rattle.std.proofs.Common.{◌≡◌, ℕ, ◌+◌, ◌-◌, Bool, true, List, [], ◌++◌, length, take, drop, refl, sym, ap, subst, ◌∙◌, append_assoc, append-nil}
 use Rattle.std.proofs.lemmas.Grind.{flat_map-append}
 use Rattle.avl_values.specs.declared.fault.Fault.{Fault}
 use Rattle.layout.specs.Rows.{Rows}
 use Rattle.item_streams.specs.Readers.{Begin, Decided, GoesOn, Pushed, ReadTo, Reader, added, broken, fresh, item, more}
 use Rattle.item_streams.specs.Streams.{Item, reading_of}
-use Rattle.item_streams.proofs.Exports.{pushed_slice, read_first, reads_all, reads_broken, reads_on}
+use Rattle.item_streams.proofs.Exports.{pushed_slice, read_first, reads_broken, reads_on}
 use Rattle.show_lines.specs.ItemTexts.{fault_text}
 use Rattle.show_lines.specs.Json.{as_line}
-use Rattle.fmb_show.specs.Shown.{Print, reading_print, short_print}
-use Rattle.fmb_show.proofs.ReadingPrints.{ends_broken, ends_short, item_lines}
+use Rattle.fmb_show.specs.Shown.{Print, reading_print}
+use Rattle.fmb_show.proofs.ReadingPrints.{ends_broken, item_lines}
 
 module _ {V : Type 0} (rows : Bool → Rows V) (lent : V → List ℕ → List ℕ) (lines : V → ℕ → List ℕ) where
   -- Of the bytes up to a place the lines of the items were appended, and the reader has their rest.
@@ -68,16 +68,4 @@ module _ {V : Type 0} (rows : Bool → Rows V) (lent : V → List ℕ → List �
             ∙ append_assoc before (item_lines lines h.items line) (as_line (fault_text found line))
             ∙ ap (λ (q : Print). before ++ q.text) (sym e),
         ap (λ (q : Print). q.faulty) e,
-      )
-
-  -- the end of the bytes
-  pub shows_all : (after_first : Bool) (bytes : List ℕ) (at line : ℕ) (before out out' : List ℕ) (s : Reader) → HasShown after_first bytes at line before out s → length bytes ≤ at
-      → out' ≡ out ++ (short_print s.have line).text
-      → (out' ≡ before ++ (print_of after_first bytes line).text) × ((print_of after_first bytes line).faulty ≡ false)
-  shows_all after_first bytes at line before out out' s h all is =
-      let e = ends_short lines rows after_first bytes h.items s.have line (reads_all rows lent after_first bytes at h.items s h.read all) in (
-        is ∙ ap (λ (o : List ℕ). o ++ (short_print s.have line).text) h.printed
-            ∙ append_assoc before (item_lines lines h.items line) (short_print s.have line).text
-            ∙ ap (λ (t : List ℕ). before ++ t) (sym e.0),
-        e.1,
       )

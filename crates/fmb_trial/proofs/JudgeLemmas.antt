@@ -1,14 +1,11 @@
 -- A text that is judged, and played where it is a script: what that comes to on the host.
-use Rattle.std.proofs.Common.{◌≡◌, ◌⊎◌, ℕ, Bool, List, Ok, sym, ◌∙◌, ap, inl, inr, arith}
+use Rattle.std.proofs.Common.{◌≡◌, ◌⊎◌, ℕ, Bool, List, sym, ◌∙◌, ap, inl, inr, arith}
 use Rattle.std.specs.Prelude.{Option, codes}
 use Rattle.fmb_host.specs.Host.{HostView}
 use Rattle.fmb_host.specs.Stocks.{Stock}
 use Rattle.medium_model.specs.State.{MediumState}
 use Rattle.trial_model.specs.Results.{Results}
 use Rattle.fmb_io.specs.Printed.{Prints}
-use Rattle.journey_script.specs.Grammar.{script_of}
-use Rattle.trial_model.specs.Script.{Script}
-use Rattle.fmb_trial.specs.Played.{RanScript}
 use Rattle.fmb_trial.specs.Ran.{IsRefused, Judged}
 use Rattle.fmb_trial.proofs.BenchLemmas.{spent_none}
 
@@ -19,26 +16,6 @@ sink_only before after said =
     ∙ ap (λ (b : Stock MediumState). record before { kept = after.kept; sink = after.sink; benches = b }) (sym (ap (λ h. h.benches) said)))
 
 module _ (text : List ℕ) (brief : Bool) (status : ℕ) (before after : HostView) where
-  -- it is a script, which was played
-  pub judged_played : (script : Script) → script_of text ≡ Ok script → RanScript script brief status before after → Judged text brief status before after
-  judged_played script is ran = record {
-    among = elim ran.among [ inl e ↦ inl e | inr s ↦ elim s [ inl e ↦ inr (inr (inl e)) | inr e ↦ inr (inr (inr e)) ] ];
-    played = λ s. record { script = script; is_script = is; keeps = ran.played s };
-    reported = ran.reported;
-    sink_steady = ran.sink_steady;
-    cut_off = ran.cut_off;
-    sink_cause = ran.sink_cause;
-    refused = λ e. absurd (never e);
-    no_memory = ran.no_memory;
-    kept_before = λ s. elim s [ inl e ↦ absurd (never e) | inr e ↦ ran.kept_before e ];
-    benches_before = λ e. absurd (never e);
-    spent = ran.spent;
-    others = ran.others;
-  }
-    where
-      never : status ≡ 3 → ⊥
-      never e = elim ran.among [ inl f ↦ omega (arith, e, f) | inr s ↦ elim s [ inl f ↦ omega (arith, e, f) | inr f ↦ omega (arith, e, f) ] ]
-
   -- it was not played
   pub judged_unplayed : (status ≡ 3) ⊎ (status ≡ 9) → (status ≡ 3 → IsRefused text (λ line. Prints line before after)) → (status ≡ 9 → Prints (codes "no memory\n") before after)
       → after ≡ record before { sink = after.sink } → Judged text brief status before after

@@ -13,7 +13,7 @@ use Rattle.trial_model.specs.Results.{Results}
 use Rattle.trial_model.specs.Script.{Script, devices_of, lines_of}
 use Rattle.trial_play.specs.OnMedia.{BenchStates, KeptOnMedia}
 use Rattle.fmb_trial.specs.Benches.{PassesNew, SpendsBenches}
-use Rattle.fmb_trial.specs.Played.{IsTrialOf, PlaysScript, RanScript, Reports}
+use Rattle.fmb_trial.specs.Played.{IsTrialOf, RanScript, Reports}
 use Rattle.fmb_trial.proofs.BenchLemmas.{spent_along}
 use Rattle.fmb_trial.proofs.DeviceLemmas.{same_count}
 
@@ -90,13 +90,3 @@ module _ (script : Script) (brief : Bool) (status : ℕ) (before mid after : Hos
     spent = λ e. spent_along before before mid after refl (ap (λ h. h.benches) said) spent;
     others = only (said ∙ ap (λ (k : Option Results). record mid { kept = k; sink = after.sink }) (sym (ap (λ h. h.kept) said)));
   }
-
--- where the sink didn't fail, its report was printed
-pub script_plays : (script : Script) (brief : Bool) (status : ℕ) (before after : HostView) → RanScript script brief status before after → PlaysScript status before after
-script_plays script brief status before after ran steady = elim ran.among [
-  | inl e ↦ inl e
-  | inr s ↦ elim s [
-    | inl e ↦ absurd (steady (ran.sink_cause e))
-    | inr e ↦ inr e
-  ]
-]

@@ -1,6 +1,5 @@
 -- Numbers and IMEIs by their digits.
-use Rattle.std.proofs.Common.{◌≡◌, ◌∙◌, ◌&&◌, ◌+◌, ◌*◌, ◌/◌, ◌%◌, ◌^◌, ◌<◌, ◌≤◌, nat_le, Bool, true, false, ℕ, zero, suc, List, [], ◌∷◌, ◌++◌, Option, Some, None, Result, Ok, Err, refl, sym, ap, arith, pow-suc, if◌then◌else◌, append_assoc, append-nil, drop, get_or, length, map, option_and_then, option_map, slice_get, unwrap_or}
-use Rattle.std.proofs.lemmas.List.{drop_all, drop_more}
+use Rattle.std.proofs.Common.{◌≡◌, ◌∙◌, ◌&&◌, ◌+◌, ◌*◌, ◌/◌, ◌%◌, ◌^◌, ◌<◌, ◌≤◌, nat_le, Bool, true, false, ℕ, zero, suc, List, [], ◌∷◌, ◌++◌, Some, None, Result, Ok, Err, refl, sym, ap, arith, pow-suc, if◌then◌else◌, drop, map, option_map}
 use Rattle.std.proofs.lemmas.Fmt.{decimal_is_IsNumeral, parse-decimal}
 use Rattle.std.proofs.lemmas.Bool.{leb-true}
 use Rattle.std.proofs.lemmas.Slice.Eq.{bytes_eq-Decides}
@@ -10,7 +9,7 @@ use Rattle.std.specs.Char.{digit_value}
 use Rattle.std.specs.Str.{bytes_eq}
 use Rattle.std.specs.Str.Parse.{ParsesUnsigned, digits_value, digits_value_after}
 use Rattle.avl_values.specs.Imei.{decimal_places, imei_text}
-use Rattle.fmb_words.specs.Numbers.{imei_of, imeis_of, number_within}
+use Rattle.fmb_words.specs.Numbers.{imeis_of, number_within}
 
 -- a digit at the end
 last_from : (n : ℕ) (digits : List ℕ) (k : ℕ) → k < 10 → digits_value_after 10 n (digits ++ (48 + k) ∷ []) ≡ digits_value_after 10 n digits * 10 + k
@@ -53,14 +52,8 @@ is_within low high number word = bytes_eq (decimal number) word && (nat_le low n
 within_spelled : (low high number : ℕ) (word : List ℕ) → is_within low high number word ≡ true → decimal number ≡ word
 within_spelled low high number word is = (bytes_eq-Decides _ _).0 (and-fst _ _ is)
 
-within_least : (low high number : ℕ) (word : List ℕ) → is_within low high number word ≡ true → low ≤ number
-within_least low high number word is = leb-true _ _ (and-fst _ _ (and-snd _ _ is))
-
 within_most : (low high number : ℕ) (word : List ℕ) → is_within low high number word ≡ true → number ≤ high
 within_most low high number word is = leb-true _ _ (and-snd _ _ (and-snd _ _ is))
-
-pub in_range : (low high number : ℕ) (word : List ℕ) → is_within low high number word ≡ true → (low ≤ number) × (number ≤ high)
-in_range low high number word is = (within_least low high number word is, within_most low high number word is)
 
 -- a word that is the digits of a number which fits is parsed as that
 parsed : {E : Type 0} (low high number : ℕ) (word : List ℕ) (r : Result ℕ E) → high < 2 ^ 64 → ParsesUnsigned 64 10 word r
@@ -100,30 +93,3 @@ module _ {X : Type 0} (text : X → List ℕ) (words : List X) where
   -- what was read of the first i words, before what the others say
   abbrev pub Reads : ℕ → List ℕ → Type 0
   Reads i list = imeis_of (map text words) ≡ option_map (λ rest. list ++ rest) (imeis_of (map text (drop i words)))
-
-  next : (i : ℕ) (list : List ℕ) (word : X) → i < length words → slice_get words i ≡ Some word → Reads i list
-      → imeis_of (map text words) ≡ option_map (λ rest. list ++ rest) (imeis_of (text word ∷ map text (drop (i + 1) words)))
-  next i list word low is reads =
-      let at : get_or words i word ≡ word = get_or_of words i word is in
-      reads ∙ ap (λ left. option_map (λ rest. list ++ rest) (imeis_of (map text left))) (drop_more words i word low ∙ ap (λ w. w ∷ drop (i + 1) words) at)
-    where
-      get_or_of : (ws : List X) (i : ℕ) (word : X) → slice_get ws i ≡ Some word → get_or ws i word ≡ word
-      get_or_of [] i word is = refl
-      get_or_of (w ∷ ws) zero word is = ap (λ o. unwrap_or o w) is
-      get_or_of (w ∷ ws) (suc i) word is = get_or_of ws i word is
-
-  pub refused_one : (i : ℕ) (list : List ℕ) (word : X) → i < length words → slice_get words i ≡ Some word → Reads i list → imei_of (text word) ≡ None → imeis_of (map text words) ≡ None
-  refused_one i list word low is reads none =
-      next i list word low is reads ∙ ap (λ o. option_map (λ rest. list ++ rest) (option_and_then (λ imei. option_map (λ imeis. imei ∷ imeis) (imeis_of (map text (drop (i + 1) words)))) o)) none
-
-  pub read_one : (i imei : ℕ) (list : List ℕ) (word : X) → i < length words → slice_get words i ≡ Some word → Reads i list → imei_of (text word) ≡ Some imei → Reads (i + 1) (list ++ imei ∷ [])
-  read_one i imei list word low is reads some =
-      next i list word low is reads ∙ ap (λ o. option_map (λ rest. list ++ rest) (option_and_then (λ imei. option_map (λ imeis. imei ∷ imeis) (imeis_of (map text (drop (i + 1) words)))) o)) some
-      ∙ joined (imeis_of (map text (drop (i + 1) words)))
-    where
-      joined : (o : Option (List ℕ)) → option_map (λ rest. list ++ rest) (option_map (λ imeis. imei ∷ imeis) o) ≡ option_map (λ rest. (list ++ imei ∷ []) ++ rest) o
-      joined None = refl
-      joined (Some rest) = ap Some (sym (append_assoc list (imei ∷ []) rest))
-
-  pub read_all : (i : ℕ) (list : List ℕ) → length words ≤ i → Reads i list → imeis_of (map text words) ≡ Some list
-  read_all i list past reads = reads ∙ ap (λ left. option_map (λ rest. list ++ rest) (imeis_of (map text left))) (drop_all i words past) ∙ ap Some (append-nil list)

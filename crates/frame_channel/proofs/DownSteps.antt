@@ -150,10 +150,6 @@ pub order_byte : (have last : List ℕ) (b : ℕ) (after_answer failed : Bool) �
     → PushedByteDown (seen have last after_answer failed) (seen [] (have ++ b ∷ []) true failed) b Order
 order_byte have last b after_answer failed e = let s = order_says after_answer (have ++ b ∷ []) e in record { verdict = s.1; state = refl }
 
-pub broken_byte : (have last : List ℕ) (b : ℕ) (after_answer failed : Bool) (found : Fault) → down_verdict after_answer (have ++ b ∷ []) ≡ fault found.kind found.place
-    → PushedByteDown (seen have last after_answer failed) (seen (have ++ b ∷ []) last after_answer true) b (Broken found)
-broken_byte have last b after_answer failed found e = record { verdict = e; state = refl }
-
 -- the answer, a count, and four zero bytes, once the last byte is there
 
 pub answer_taken : (b : ℕ) (after_answer : Bool) (bytes : List ℕ) → after_answer ≡ false → bytes ≡ [] → down_verdict after_answer (bytes ++ b ∷ []) ≡ whole (answer b) (length (bytes ++ b ∷ []))

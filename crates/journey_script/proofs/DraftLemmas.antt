@@ -1,12 +1,11 @@
 -- Lines that are put in a draft, one after another.
-use Rattle.std.proofs.Common.{◌≡◌, ◌+◌, ℕ, List, [], ◌∷◌, ◌++◌, length, sym, ap, subst, ◌∙◌, arith}
+use Rattle.std.proofs.Common.{◌≡◌, ◌+◌, ℕ, List, [], ◌∷◌, ◌++◌, length, sym, ap, ◌∙◌, arith}
 use Rattle.std.specs.List.{enumerate_from}
 use Rattle.std.proofs.lemmas.List.{length-map, map_push}
 use Rattle.trial_model.specs.Script.{Script, lines_of}
 use Rattle.trial_model.specs.declared.script.ScriptLine.{ScriptLine}
 use Rattle.journey_script.specs.declared.compact.NumberedLine.{NumberedLine}
-use Rattle.journey_script.specs.Compact.{HasFewValues, IsKept, IsNumbered, line_in, script_in}
-use Rattle.journey_script.specs.Grammar.{IsScript}
+use Rattle.journey_script.specs.Compact.{HasFewValues, IsNumbered, line_in, script_in}
 use Rattle.journey_script.proofs.ReadingLemmas.{few_push, script_push}
 
 pub draft_length : (lines : List NumberedLine) → length (lines_of (script_in lines)) ≡ length lines
@@ -26,6 +25,3 @@ numbered_push lines new known few number = record {
       ∙ sym (enumerate_push 1 new.number (lines_of (script_in lines)) (line_in new.line) (omega (arith, number, draft_length lines)))
       ∙ ap (enumerate_from 1) (sym (draft_push lines new));
 }
-
-pub kept_draft : (lines : List NumberedLine) → IsNumbered lines → IsScript (enumerate_from 1 (lines_of (script_in lines))) → IsKept lines
-kept_draft lines known is = record { few = known.few; is_script = subst IsScript (sym known.in_order) is }

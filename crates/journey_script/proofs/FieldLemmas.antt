@@ -31,10 +31,6 @@ abbrev pub with_front : List ℕ → Result (List ℕ) ScriptFault → Result (L
 with_front front (Ok values) = Ok (front ++ values)
 with_front front (Err fault) = Err fault
 
-pub none_before : (said : Result (List ℕ) ScriptFault) → said ≡ with_front [] said
-none_before (Ok values) = refl
-none_before (Err fault) = refl
-
 moved : (front : List ℕ) (value : ℕ) (said : Result (List ℕ) ScriptFault) → with_front front (said >>= (λ values. Ok (value ∷ values))) ≡ with_front (front ++ value ∷ []) said
 moved front value (Ok values) = ap Ok (sym (append_assoc front (value ∷ []) values))
 moved front value (Err fault) = refl

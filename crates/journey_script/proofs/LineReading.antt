@@ -9,7 +9,7 @@ use Rattle.trial_model.specs.declared.script.ScriptLine.TheVariants as Line
 use Rattle.journey_script.specs.declared.fault.ScriptFault.{ScriptFault}
 use Rattle.journey_script.specs.declared.fault.ScriptFault.TheVariants.{FieldCount}
 use Rattle.journey_script.specs.declared.word.LineWord.{LineWord}
-use Rattle.journey_script.specs.Lines.{Makes, fields_after, fields_of, first_of, fix_with, line_by, line_of, read_fields, read_values, rest_of, setting_with, worded_line, ◌>>=◌}
+use Rattle.journey_script.specs.Lines.{Makes, fields_of, first_of, fix_with, line_by, line_of, read_fields, read_values, rest_of, setting_with, worded_line, ◌>>=◌}
 use Rattle.journey_script.specs.Table.{FieldKind, Said, is_count_of, kinds_of, spell_field, value_kind}
 use Rattle.journey_script.specs.Words.{line_word}
 use Rattle.journey_script.specs.Writing.{Parts, spell_fields, spelled, words_of}
@@ -54,10 +54,6 @@ fields_read [] make parts more said = refl
 fields_read {A} (kind ∷ kinds) make parts more said =
     ap (λ (r : Result (Said kind) ScriptFault). r >>= (λ said. read_fields kinds (make said) (spell_fields kinds parts.1 ++ more))) (field_read kind parts.0 said.0)
     ∙ fields_read kinds (make parts.0) parts.1 more said.1
-
-after_fields : (kinds : List FieldKind) (parts : Parts kinds) (more : List (List ℕ)) → fields_after kinds (spell_fields kinds parts ++ more) ≡ more
-after_fields [] parts more = refl
-after_fields (kind ∷ kinds) parts more = after_fields kinds parts.1 more
 
 fields_solid : (kinds : List FieldKind) (parts : Parts kinds) (more : List (List ℕ)) → AreSaid kinds parts → AllSolid more → AllSolid (spell_fields kinds parts ++ more)
 fields_solid [] parts more said rest = rest

@@ -1,9 +1,7 @@
 -- What the reader keeps after one line more, for each kind of line.
 use Rattle.std.proofs.Common.{◌≡◌, ◌==◌, ◌+◌, ℕ, ◌≤◌, ◌||◌, ◌&&◌, Bool, true, false, cond, not, nat_lt, List, [], ◌∷◌, ◌++◌, filter, length, length-append, Option, Some, None, refl, sym, ap, subst, ◌∙◌, arith, if◌then◌else◌}
-use Rattle.std.specs.Prelude.{is_none, is_some, option_map}
-use Rattle.std.specs.BTreeMap.{btree_map_len, is_at}
-use Rattle.std.specs.Map.{lookup}
-use Rattle.std.specs.Ordering.{nat_cmp}
+use Rattle.std.specs.Prelude.{is_none, is_some}
+use Rattle.std.specs.BTreeMap.{btree_map_len}
 use Rattle.std.proofs.lemmas.Bool.Decides.{nat_tests}
 use Rattle.std.proofs.lemmas.List.Sums.{fold-append}
 use Rattle.std.proofs.lemmas.List.{length-map}
@@ -20,13 +18,12 @@ use Rattle.trial_model.specs.declared.script.Who.TheVariants as Who
 use Rattle.journey_script.specs.Compact.{fix_line}
 use Rattle.journey_script.specs.declared.compact.CompactFix.{CompactFix}
 use Rattle.journey_script.specs.declared.connections.Connections.{Connections}
-use Rattle.journey_script.specs.declared.devices.DeviceState.{DeviceState}
 use Rattle.journey_script.specs.declared.fault.LineFault.{LineFault}
 use Rattle.journey_script.specs.declared.fault.ScriptFault.{ScriptFault}
 use Rattle.journey_script.specs.declared.fault.ScriptFault.TheVariants.{NoConnection, TooManyOpen}
 use Rattle.journey_script.specs.declared.standing.Standing.{Standing}
 use Rattle.journey_script.specs.Later.{Enrolled, connection_count, connection_fault, device_count, device_fault, enrolled_after, enrolled_in, fix_fault, is_device_line, later_fault, of_device, open_count, setting_line_fault, unless_enrolled, when, with_closed, with_setting}
-use Rattle.journey_script.specs.Standing.{KnowsConnections, RefusesLater, enrolled_at, enrolled_by, open_after, open_from}
+use Rattle.journey_script.specs.Standing.{KnowsConnections, RefusesLater, enrolled_at, open_after, open_from}
 use Rattle.journey_script.specs.Taking.{IsRefusedBy, Knows, Takes}
 use Rattle.journey_script.proofs.ConnectionLemmas.{connections_push, count_push, knows_connections, made_by, length-at_number, length-covered, open_closed, open_covered, open_length, open_more, open_restarted, open_rounded, server_fuse, untouched}
 
@@ -326,12 +323,3 @@ drain_taken old new imei piece sound enrolled devices count half_open off = λ l
 pub drain_refused : (old : Standing) (imei piece : ℕ) (fault : ScriptFault) → absent (enrolled_at old.devices imei) ≡ Some fault → IsRefusedBy old (Line.Drain imei piece) (LineFault.Fault fault)
 unfolding later_fault
 drain_refused old imei piece fault h = λ lines known. ap absent (sym (known.enrolled imei)) ∙ h
-
--- before the first line
-pub knows_none : (new : Standing) → new.devices.entries ≡ [] → btree_map_len new.devices ≡ 0 → new.connections.count ≡ 0 → new.connections.half_open.items ≡ [] → new.connections.armed ≡ false
-    → Knows new []
-knows_none new empty none count half_open off = record {
-  enrolled = λ q. ap (λ (es : List (ℕ × DeviceState)). option_map enrolled_by (lookup (is_at (nat_cmp q)) es)) empty;
-  device_lines = none;
-  connection_lines = record { count = count; made = refl; half_open = half_open; armed = off };
-}

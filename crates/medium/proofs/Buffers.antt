@@ -1,34 +1,15 @@
 -- A loop that sets a range of a buffer, and what it leaves.
-use Rattle.std.proofs.Common.{◌≡◌, ◌⊎◌, inl, inr, ℕ, ◌+◌, ◌-◌, ◌<◌, ◌≤◌, max, Bool, true, false, List, [], length, get_or, set, take, replicate, sym, ◌∙◌, ap, refl, subst, arith, length-take, length-set, get_or-set_same, get_or-set_other}
+use Rattle.std.proofs.Common.{◌≡◌, ◌⊎◌, inl, inr, ℕ, ◌+◌, ◌-◌, ◌<◌, ◌≤◌, max, Bool, true, false, List, [], length, get_or, set, take, replicate, sym, ◌∙◌, ap, subst, arith, length-take}
 use Rattle.std.proofs.lemmas.List.{length-replicate, ext_get_or, get_or-take, get_or-replicate, get_or_past}
-use Rattle.std.proofs.lemmas.Bool.{cases_lt, cases_eq}
+use Rattle.std.proofs.lemmas.Bool.{cases_lt}
 use Rattle.std.specs.Vec.{with_items}
 use Rattle.std.proofs.lemmas.List.{with_items_is}
 use Rattle.std.specs.declared.vec.Vec.{Vec}
 use Rattle.medium_model.specs.Content.{written}
-use Rattle.medium.specs.Buffer.{Buffer, DirtyMarks, HasMore, IsPadded, IsMarked, IsOutside, SetFrom}
+use Rattle.medium.specs.Buffer.{Buffer, DirtyMarks, HasMore, IsPadded, IsMarked, SetFrom}
 use Rattle.medium.specs.declared.spans.Span.{Span}
 use Rattle.medium.proofs.Outside.{end-later}
 use Rattle.medium_model.proofs.Written.{length-written, get_or-written_before, get_or-written_there, get_or-written_behind}
-
-pub set-none : {A : Type 0} → (d : A) (at : ℕ) (f : ℕ → A) (xs : List A) → SetFrom d at 0 f xs xs
-set-none d at f xs = record { size = refl; there = λ k below. absurd (omega arith); elsewhere = λ k _. refl }
-
-pub set-more : {A : Type 0} → {d : A} {at n : ℕ} {f : ℕ → A} {before after : List A}
-    → SetFrom d at n f before after → (i : ℕ) → i ≡ at + n → i < length after → (y : A) → y ≡ f n → SetFrom d at (n + 1) f before (set after i y)
-set-more {d = d} {at = at} {n = n} {f = f} {before = before} {after = after} so i is fits y value = record {
-  size = length-set after i y ∙ so.size;
-  there = λ k below. elim (cases_eq k n) as (λ _. get_or (set after i y) (at + k) d ≡ f k) [
-    | inl same ↦
-        let here : at + k ≡ i = omega arith in
-        ap (λ j. get_or (set after i y) j d) here ∙ get_or-set_same after i y d fits ∙ value ∙ ap f (sym same)
-    | inr other ↦ get_or-set_other after i (at + k) y d (λ eq. other (omega arith)) ∙ so.there k (omega arith)
-  ];
-  elsewhere = λ k out. elim out as (λ _. get_or (set after i y) k d ≡ get_or before k d) [
-    | inl low ↦ get_or-set_other after i k y d (λ eq. omega arith) ∙ so.elsewhere k (inl low)
-    | inr high ↦ get_or-set_other after i k y d (λ eq. omega arith) ∙ so.elsewhere k (inr (omega arith))
-  ];
-}
 
 -- the place of an element, before, in or after a range
 pub data Place (at n k : ℕ) : Type 0 where
@@ -124,14 +105,6 @@ marked-more at n end new_end span spans more earlier after marked fits so is has
   clean = λ k out. so.elsewhere k (elim (has.has k out) as (λ _. (k < at) ⊎ (at + n ≤ k)) [ inl low ↦ inl (omega arith) | inr high ↦ inr (omega arith) ]) ∙ marked.clean k (has.covers k out);
 }
 
--- no mark is left
-pub marks-cleared : (after : List Bool) → ((k : ℕ) → get_or after k false ≡ false) → IsMarked [] 0 after
-marks-cleared after all = record {
-  padded = record { within = omega arith; behind = λ k _. all k };
-  ends = record { each = λ i d low. absurd (omega arith) };
-  clean = λ k _. all k;
-}
-
 -- what contracts see of a buffer
 abbrev seen : ℕ → List ℕ → Buffer
 seen len items = record { bytes = take len items; room = length items }
@@ -147,15 +120,6 @@ seen-put at n ys len end before after was padded fits all so is view =
     let bytes = take-put 0 at ys len before after padded (omega arith) so_all end is in
     let size = so.size in
     cc
-
-pub seen-outside : (len other_len : ℕ) (mine other : List ℕ) (was it : Buffer) (spans : List Span)
-    → IsPadded 0 len mine → IsPadded 0 other_len other → seen len mine ≡ was → seen other_len other ≡ it
-    → ((k : ℕ) → IsOutside spans k → get_or was.bytes k 0 ≡ get_or it.bytes k 0)
-    → (k : ℕ) → IsOutside spans k → get_or mine k 0 ≡ get_or other k 0
-seen-outside len other_len mine other was it spans padded other_padded view other_view outside k out =
-    let was_bytes = ap (λ (v : Buffer). get_or v.bytes k 0) view in
-    let it_bytes = ap (λ (v : Buffer). get_or v.bytes k 0) other_view in
-    sym (front 0 len mine k padded) ∙ was_bytes ∙ outside k out ∙ sym it_bytes ∙ front 0 other_len other k other_padded
 
 pub seen-copied : (other_len : ℕ) (len : ℕ) (mine other after : List ℕ) (was it : Buffer)
     → IsPadded 0 other_len other → seen len mine ≡ was → seen other_len other ≡ it

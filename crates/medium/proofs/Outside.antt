@@ -1,6 +1,6 @@
 -- Spans, and the places outside of them.
 use Rattle.std.proofs.Common.{◌≡◌, ◌⊎◌, inl, inr, ℕ, zero, suc, ◌+◌, ◌-◌, ◌<◌, ◌≤◌, min, max, Bool, false, List, [], ◌∷◌, ◌++◌, length, get_or, drop, sym, ◌∙◌, ap, subst, arith}
-use Rattle.std.proofs.lemmas.List.{drop_more, drop_all}
+use Rattle.std.proofs.lemmas.List.{drop_more}
 use Rattle.std.proofs.lemmas.Bool.{cases_lt}
 use Rattle.medium.specs.Buffer.{EndBy, HasMore, IsOutside, SetFrom}
 use Rattle.medium.specs.declared.spans.Span.{Span}
@@ -98,6 +98,3 @@ one-unmarked spans i d first end before after low is_first is_end so were k out 
     (λ above below. let j : first + (k - first) ≡ k = omega arith in
     ap (λ p. get_or after p false) (sym j) ∙ so.there (k - first) (omega arith))
     (λ apart rest. so.elsewhere k (elim apart as (λ _. (k < first) ⊎ (first + (end - first) ≤ k)) [ inl under ↦ inl under | inr past ↦ later k first end past ]) ∙ were k rest)
-
-pub all-done : (spans : List Span) (i : ℕ) (k : ℕ) → length spans ≤ i → IsOutside (drop i spans) k
-all-done spans i k past = subst (λ (ss : List Span). IsOutside ss k) (sym (drop_all i spans past)) tt

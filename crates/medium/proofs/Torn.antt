@@ -2,7 +2,6 @@
 use Rattle.std.proofs.Common.{◌≡◌, ◌⊎◌, inl, inr, ℕ, ◌+◌, ◌<◌, ◌≤◌, max, ◌/◌, ◌==◌, if◌then◌else◌, Bool, true, false, Result, Ok, Err, OnErr, Some, List, length, get_or, take, replicate, sym, ◌∙◌, ap, refl, subst, arith, length-take}
 use Rattle.std.proofs.lemmas.List.{length-replicate, get_or-replicate}
 use Rattle.medium_model.specs.Content.{Content, FailedWrite, after_write, written}
-use Rattle.medium_model.specs.PowerLoss.{IsImage}
 use Rattle.medium_model.specs.State.{TornWrite}
 use Rattle.medium.specs.Buffer.{Buffer, DirtyMarks, ReadyContent, IsTornImage, FitTogether, content_of}
 use Rattle.medium.specs.Memory.{Tears, TearsHeld, IsBench, after_torn, torn_write}
@@ -11,9 +10,6 @@ use Rattle.medium_model.specs.declared.bench.Tear.TheVariants.{Half}
 use Rattle.medium.specs.declared.power.Power.{Power}
 use Rattle.medium.proofs.Buffers.{ahead, inside, past, place_of}
 use Rattle.medium_model.proofs.Written.{length-written, get_or-written_before, get_or-written_there, get_or-written_behind}
-
-pub image-torn : (c : Content) (image : List ℕ) → IsTornImage c image → IsImage c image
-image-torn c image torn = torn.may_be_left
 
 -- the marks after a write
 module _ (at n : ℕ) (was : List Bool) where

@@ -15,7 +15,7 @@ use Rattle.session_core.specs.declared.served.SessionEnd.{SessionEnd}
 use Rattle.session_core.specs.declared.served.SessionEnd.TheVariants as ends
 use Rattle.server_loop.specs.Connections.{Connection, IsConnection, AreServed, Works, Runs, ended_by_link, failed_links, link_ends, no_orders}
 use Rattle.server_loop.specs.Progress.{ServesOne, Fails, IsOn}
-use Rattle.server_loop.proofs.Passing.{passes_none, passes_then, once_some, once_low}
+use Rattle.server_loop.proofs.Passing.{passes_then, once_some, once_low}
 
 each-snoc : {X : Type 0} (P : X → Type 0) (xs : List X) (x : X) → Each P xs → P x → Each P (xs ++ x ∷ [])
 each-snoc P [] x each one = (one, tt)
@@ -94,14 +94,6 @@ module _ {L : Type 0} (state : L → LinkState) (follows : L → L → Type 0) (
       link_faults = takes.link_faults ∙ ap (λ (n : ℕ). n + once_if (state back).faults) gives.link_faults;
       marked = refl;
       feeds = is.feeds;
-    }
-
-    pub starts : (d : DoorState L) (s : S) → IsOn state follows knows leaves mark d d s s []
-    starts d s = record {
-      cs = [];
-      served_are = record { each = tt; are = refl; passes = passes_none d.told; link_faults = omega arith };
-      faults = refl;
-      runs = refl;
     }
 
     pub goes_on : (d e f : DoorState L) (s t u : S) (served : List Served) (one : Served)

@@ -114,15 +114,3 @@ module _ {D M : Type 0} {d : Ghosts M} where
           → IfSome before (λ b. AreJoined (seen b) (numbers b) (seen seat) (numbers seat) (seen result)) → numbers seat ≡ length ws ∷ [] → IsSeatOf desk seat → IsSeatOfAll desk (ws ++ w ∷ []) result
       by None joined none sum history own there = first-seat desk ws w seat result joined has there own (none refl)
       by (Some b) joined none sum history own there = next-seat desk ws w b seat result joined has own of_desk sum history
-
-  -- what is joined is a seat of the desk
-  pub joined-of : (desk : Desk M) (ws : List (Worker D M d)) (before : Option (Seat M d)) → AreJoinedIn desk ws before → IfSome before (λ b. IsSeatOf desk b)
-  joined-of desk ws None joined = tt
-  joined-of desk ws (Some b) joined = joined.of_desk
-
-  pub joined-some : (desk : Desk M) (ws : List (Worker D M d)) (before : Option (Seat M d)) → 0 < length ws → AreJoinedIn desk ws before → IsSome before
-  joined-some desk ws None some joined = absurd (let none = ap (λ (l : List (Worker D M d)). length l) joined in omega (arith, none, some))
-  joined-some desk ws (Some b) some joined = refl
-
-  pub joined-all : (desk : Desk M) (ws : List (Worker D M d)) (before : Option (Seat M d)) (seat : Seat M d) → before ≡ Some seat → AreJoinedIn desk ws before → IsSeatOfAll desk ws seat
-  joined-all desk ws before seat is joined = subst (λ (z : Option (Seat M d)). AreJoinedIn desk ws z) is joined

@@ -1,15 +1,11 @@
 -- Links given by a door and given back to it, one after the other.
-use Rattle.std.proofs.Common.{◌≡◌, ℕ, ◌<◌, ◌≤◌, List, [], ◌++◌, Option, Some, None, refl, sym, ap, subst, ◌∙◌, append_assoc, append-nil, arith}
+use Rattle.std.proofs.Common.{◌≡◌, ℕ, ◌<◌, ◌≤◌, List, [], ◌++◌, Option, Some, None, sym, ap, subst, ◌∙◌, append_assoc, arith}
 use Rattle.std.proofs.lemmas.Bool.Decides.{nat_tests}
 use Rattle.doors.specs.Doors.{DoorLinks, Passes, once_if}
 
 module _ {L : Type 0} where
   abbrev links_of : List L → List L → Option (DoorLinks L)
   links_of gives back = let links : DoorLinks L = record { gives = gives; back = back } in Some links
-
-  pub passes_none : (d : Option (DoorLinks L)) → Passes [] [] d d
-  passes_none None = refl
-  passes_none (Some d) = (d.gives, refl, ap (λ (back : List L). links_of d.gives back) (sym (append-nil d.back)))
 
   pub passes_then : (d m e : Option (DoorLinks L)) (given back more more_back : List L) → Passes given back d m → Passes more more_back m e → Passes (given ++ more) (back ++ more_back) d e
   passes_then None m e given back more more_back p q = subst (λ (z : Option (DoorLinks L)). Passes more more_back z e) p q

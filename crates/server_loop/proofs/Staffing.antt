@@ -131,13 +131,6 @@ module _ {D M : Type 0} {d : Ghosts M} where
             workers = subst (λ (z : List (DoorState L) × List WorkerReport). AreWorkers state follows knows sessions 0 (seen seat) (map (λ w. door_state (door_of w)) vs) z.0 z.1) (λ i. (sym doors_back i, sym reports_are i)) are;
           }
 
--- one more of a list is still to come
-pub one-more : {X Y Z : Type 0} (f : Y → X) (yielded rest all : List X) (x : X) (ys : List Y) (zs : List Z) → yielded ++ x ∷ rest ≡ all → map f ys ≡ yielded → length zs + length ys ≡ length all → 0 < length zs
-one-more f yielded rest all x ys zs cut are count =
-    let long = ap (λ l. length l) (sym cut) ∙ length-append yielded (x ∷ rest) in
-    let same = ap (λ l. length l) (sym are) ∙ length-map ys f in
-    omega arith
-
 pub one-less : {Y Z : Type 0} (n : ℕ) (ys now : List Y) (zs left : List Z) (y : Y) (z : Z) → now ≡ ys ++ y ∷ [] → zs ≡ left ++ z ∷ [] → length zs + length ys ≡ n → length left + length now ≡ n
 one-less n ys now zs left y z more cut count =
     let here = ap (λ l. length l) more ∙ length-append ys (y ∷ []) in

@@ -76,13 +76,6 @@ bodies_total [] = refl
 bodies_total (p ∷ ps) = omega (arith, bodies_total ps)
 
 module _ {O : Type 0} (m : Meaning O) (known : ℕ → Bool) where
-  -- with a device
-  device_stays : (imei : ℕ) (o : O) (vs : List UpValue) → is_stranger (after m known (device imei o) vs) ≡ false
-  device_stays imei o [] = refl
-  device_stays imei o (login other ∷ vs) = device_stays imei o vs
-  device_stays imei o (packet head body ∷ vs) = device_stays imei (m.asked o imei) vs
-  device_stays imei o (response body ∷ vs) = device_stays imei _ vs
-
   device_bodies : (imei : ℕ) (o : O) (vs : List UpValue) → bodies_in vs ≡ bodies_of (packets m known (device imei o) vs)
   device_bodies imei o [] = refl
   device_bodies imei o (login other ∷ vs) = device_bodies imei o vs
@@ -97,10 +90,6 @@ module _ {O : Type 0} (m : Meaning O) (known : ℕ → Bool) where
   pub stranger_says : (imei : ℕ) (o : O) (vs : List UpValue) → text m known (stranger imei o) vs ≡ []
   stranger_says imei o [] = refl
   stranger_says imei o (v ∷ vs) = stranger_says imei o vs
-
-  stranger_stores : (imei : ℕ) (o : O) (vs : List UpValue) → packets m known (stranger imei o) vs ≡ []
-  stranger_stores imei o [] = refl
-  stranger_stores imei o (v ∷ vs) = stranger_stores imei o vs
 
   -- Unless a stranger is talked to, the data frames are just the packets.
   known_bodies : (b : Bool) (imei : ℕ) (o q : O) (vs : List UpValue) → is_stranger (after m known (if b then device imei q else stranger imei o) vs) ≡ false → bodies_in vs ≡ bodies_of (packets m known (if b then device imei q else stranger imei o) vs)

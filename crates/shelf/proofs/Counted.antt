@@ -171,9 +171,6 @@ counted-kept list d s is other = record { first = λ q. is.first q ∙ keeps q (
             absurd (none-some known.0 (sym at ∙ ap (first_from 0 list) (sym is_q) ∙ known.1))
         apart false different = ap (λ (b : Bool). if b then Some (0 + length list) else None) different
 
-pub counted-none : (d : Devices) → ((imei : ℕ) → get nat_cmp d.firsts imei ≡ None) → d.count ≡ 0 → IsCounted [] d
-counted-none d none count = record { first = none; count = count }
-
 -- In the code's words.
 
 pub found-in : (firsts : BTreeMap ℕ ℕ) (n imei : ℕ) (copied looked w : Option ℕ) → n ≡ imei → copied ≡ looked → looked ≡ get nat_cmp firsts n → copied ≡ w → get nat_cmp firsts imei ≡ w

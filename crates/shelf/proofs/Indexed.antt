@@ -9,11 +9,11 @@ use Rattle.std.specs.declared.cmp.Ordering.TheVariants.{Less, Equal, Greater}
 use Rattle.std.specs.BTreeMap.{BTreeMap, Updates}
 use Rattle.std.proofs.lemmas.Bool.{cases_lt, false≢true}
 use Rattle.std.proofs.lemmas.Map.Lookups.{exact_unsigned, exact_pairs}
-use Rattle.std.proofs.lemmas.Option.{same_Some, slice_get_within, none-some}
+use Rattle.std.proofs.lemmas.Option.{same_Some, none-some}
 use Rattle.avl_values.specs.Record.{Record}
 use Rattle.shelf.specs.Archive.{StoredValue, stored, is_same_stored, has}
 use Rattle.shelf.specs.Index.{Key, key_cmp, place_in, number_at, digest_for, IsFiled, IsIndexed, IsFree}
-use Rattle.record_lists.proofs.EachOnce.{get-front, get-cases, not-listed}
+use Rattle.record_lists.proofs.EachOnce.{get-cases, not-listed}
 use Rattle.shelf.proofs.Lists.{stored-tell}
 
 equal-is : (o : Ordering) → is_eq o ≡ true → o ≡ Equal
@@ -66,18 +66,9 @@ module _ (places more : BTreeMap Key ℕ) (key : Key) (place : ℕ) (updates : U
     ];
   }
 
-pub indexed-none : (find : Key → Option ℕ) → IsIndexed [] find
-indexed-none find = record { each = λ p s at. absurd (let low = slice_get_within [] p s at in omega arith) }
-
-pub indexed-front : (xs ys : List StoredValue) (find : Key → Option ℕ) → IsIndexed (xs ++ ys) find → IsIndexed xs find
-indexed-front xs ys find is = record { each = λ p s at. is.each p s (get-front xs ys p s at) }
-
 -- The numbers before a step have places at which the record doesn't stand.
 pub record ArePassed (list : List StoredValue) (find : Key → Option ℕ) (imei : ℕ) (r : Record) (step : ℕ) : Type 0 where
   pub each : (j : ℕ) → j < step → (place : ℕ) × (find (imei, number_at (digest_for r) j) ≡ Some place) × (slice_get list place ≡ Some (stored imei r) → ⊥)
-
-pub passed-none : (list : List StoredValue) (find : Key → Option ℕ) (imei : ℕ) (r : Record) → ArePassed list find imei r 0
-passed-none list find imei r = record { each = λ j low. absurd (omega arith) }
 
 pub passed-more : (list : List StoredValue) (find : Key → Option ℕ) (imei : ℕ) (r : Record) (step next place : ℕ) → ArePassed list find imei r step → next ≡ step + 1 → find (imei, number_at (digest_for r) step) ≡ Some place
     → (slice_get list place ≡ Some (stored imei r) → ⊥) → ArePassed list find imei r next

@@ -18,7 +18,7 @@ use Rattle.archive_journal.specs.Journal as journal
 use Rattle.shelf.specs.Archive.{StoredValue, stored, has, add, admitted, fresh, listed, list_of, ArePlaces}
 use Rattle.shelf.specs.Shelf.{ShelfView, Lists, IsDurable, HasList, IsShelf, calls_for, recs_of, Leaves}
 use Rattle.shelf.specs.declared.receipt.Receipt.{Receipt}
-use Rattle.shelf.specs.declared.receipt.AdmitFault.TheVariants.{Down, NoMemory, MediumFault}
+use Rattle.shelf.specs.declared.receipt.AdmitFault.TheVariants.{NoMemory, MediumFault}
 
 -- The list after a packet.
 
@@ -159,17 +159,6 @@ nothing-staged list staged imei rs same is =
     is ∙ admitted-fresh list imei rs ∙ ap (λ (l : List Record). list ++ map (stored imei) l) (no_more list staged imei rs same is) ∙ append-nil list
 
 module _ (j : JournalView) (list : List StoredValue) (down : Bool) (opened imei : ℕ) (body : List ℕ) (is : IsShelf j list down opened) where
-  pub leaves-down : (faults : ℕ) → down ≡ true → faults ≡ j.medium.faults → Leaves (view j.medium list down opened) imei body (Err (Down faults)) (view j.medium list down opened)
-  leaves-down faults fallen count = record {
-    admits = record { list = refl; down = refl; fits = fallen; counts = (count, refl) };
-    opened = refl;
-    durable = λ up. absurd (let never : false ≡ true = sym up ∙ fallen in cc);
-    fell = is.fell;
-    images = λ up. absurd (let never : false ≡ true = sym up ∙ fallen in cc);
-    unwritten = λ _. refl;
-    counted = counted-none j.medium;
-  }
-
   module _ (up : down ≡ false) (k : JournalView) where
     pub leaves-none : (cut : List StoredValue) → cut ≡ list → k ≡ record j { buffer = k.buffer } → Leaves (view j.medium list down opened) imei body (Err NoMemory) (view k.medium cut down opened)
     leaves-none cut same left =

@@ -7,8 +7,8 @@ use Rattle.shelf.specs.Archive.{StoredValue, stored, is_same_stored, has}
 use Rattle.shelf.specs.Devices.{IsCounted}
 use Rattle.shelf.specs.Index.{Key, key_cmp, place_in, digest_for, IsIndexed, IsFree, IsListing}
 use Rattle.shelf.specs.declared.devices.Devices.{Devices}
-use Rattle.shelf.proofs.Indexed.{indexed-kept, indexed-more, indexed-front}
-use Rattle.record_lists.proofs.EachOnce.{once-front, once-more}
+use Rattle.shelf.proofs.Indexed.{indexed-kept, indexed-more}
+use Rattle.record_lists.proofs.EachOnce.{once-more}
 use Rattle.shelf.proofs.Lists.{stored-tell}
 
 abbrev under : List (Key × ℕ) → Key → Option ℕ
@@ -48,10 +48,3 @@ module _ (list items seen : List StoredValue) (places new : BTreeMap Key ℕ) (d
         indexed = indexed-more places new (key, number) place updates none list imei r is.indexed free device at;
         counted = subst Q (read ∙ same) counted;
       })
-
--- the last record less
-pub listing-less : (list items : List StoredValue) (s : StoredValue) (places : BTreeMap Key ℕ) (d e : Devices) → list ≡ items ++ s ∷ [] → IsListing list places d → IsCounted items e → IsListing items places e
-listing-less list items s places d e is listing counted =
-    let P : List StoredValue → Type 0 = λ l. IsListing l places d in
-    let all = subst P is listing in
-    record { once = once-front items (s ∷ []) all.once; indexed = indexed-front items (s ∷ []) (place_in places) all.indexed; counted = counted }

@@ -1,8 +1,7 @@
 -- The record list, one record more.
-use Rattle.std.proofs.Common.{◌≡◌, ℕ, ◌<◌, ◌≤◌, Bool, true, false, ◌&&◌, if◌then◌else◌, List, [], ◌∷◌, ◌++◌, length, get_or, slice_get, Some, sym, ◌∙◌, ap, refl, subst, arith}
+use Rattle.std.proofs.Common.{◌≡◌, ℕ, Bool, true, ◌&&◌, if◌then◌else◌, List, [], ◌∷◌, ◌++◌, length, slice_get, Some, sym, ◌∙◌, ap, refl, subst, arith}
 use Rattle.std.specs.Prelude.{◌==◌}
 use Rattle.std.proofs.lemmas.Bool.Decides.{nat_tests}
-use Rattle.std.proofs.lemmas.Option.{slice_get_within, slice_get-get_or, get_or_from_slice_get}
 use Rattle.avl_values.specs.Record.{Record}
 use Rattle.record_lists.specs.SameRecord.{is_same}
 use Rattle.record_lists.proofs.EachOnce.{TellsSame, get-last, place-listed}
@@ -25,22 +24,10 @@ stored-tell = record {
   itself = λ s. here-found s.imei s.rec;
 }
 
-pub past-other : (list : List StoredValue) (imei q : ℕ) (r : Record) → length list ≤ q → slice_get list q ≡ Some (stored imei r) → ⊥
-past-other list imei q r past at = let low = slice_get_within list q (stored imei r) at in omega arith
-
-pub read-other : (list : List StoredValue) (place : ℕ) (x s : StoredValue) → x ≡ get_or list place x → (x ≡ s → ⊥) → slice_get list place ≡ Some s → ⊥
-read-other list place x s read other at = other (read ∙ get_or_from_slice_get list place s x at)
-
-pub read-some : (list : List StoredValue) (place : ℕ) (x s : StoredValue) → place < length list → x ≡ get_or list place x → x ≡ s → slice_get list place ≡ Some s
-read-some list place x s low read is = slice_get-get_or list place x low ∙ ap Some (sym read ∙ is)
-
 -- One record of a packet staged, in the code's words.
 
 pub add-known : (list : List StoredValue) (imei : ℕ) (r : Record) → has list imei r ≡ true → list ≡ add list imei r
 add-known list imei r is = let P : Bool → Type 0 = λ b. list ≡ (if b then list else list ++ stored imei r ∷ []) in subst P (sym is) refl
-
-pub add-new : (list : List StoredValue) (imei : ℕ) (r : Record) → has list imei r ≡ false → list ++ stored imei r ∷ [] ≡ add list imei r
-add-new list imei r is = let P : Bool → Type 0 = λ b. list ++ stored imei r ∷ [] ≡ (if b then list else list ++ stored imei r ∷ []) in subst P (sym is) refl
 
 pub added-known : (list : List StoredValue) (imei p : ℕ) (r : Record) → slice_get list p ≡ Some (stored imei r) → list ≡ add list imei r
 added-known list imei p r at = add-known list imei r (place-listed is_same_stored stored-tell list (stored imei r) p at)

@@ -66,9 +66,6 @@ staging-first start imei codec body left w is = record {
 }
 
 module _ (start : List StoredValue) (imei : ℕ) (codec : Codec) (all : List Record) (list : List StoredValue) (places : List ℕ) (left : List (List ℕ)) where
-  pub staging-sound : (r : List ℕ) (rest : List (List ℕ)) → Staging start imei codec all list places left → left ≡ r ∷ rest → IsSomeRecord codec r
-  staging-sound r rest s is = (subst (AllByRecursion (IsSomeRecord codec)) is s.sound).0
-
   pub staging-room : (r : List ℕ) (rest : List (List ℕ)) → Staging start imei codec all list places left → left ≡ r ∷ rest → length places < length all
   staging-room r rest s is =
       let count = places-count list imei s.done places s.placed in
@@ -92,14 +89,6 @@ module _ (start : List StoredValue) (imei : ℕ) (codec : Codec) (all : List Rec
         placed = subst Q (sym longer_is) (places-push more imei s.done places this p (places-later list more imei s.done places begins s.placed) at);
         sound = (subst (AllByRecursion (IsSomeRecord codec)) is s.sound).1;
       }
-
-  pub staging-list : Staging start imei codec all list places left → left ≡ [] → list ≡ admitted start imei all
-  staging-list s none = ap (λ (l : List (List ℕ)). admitted list imei (in_codec codec l)) (sym none) ∙ s.grows
-
-  pub staging-places : Staging start imei codec all list places left → left ≡ [] → ArePlaces list imei all places
-  staging-places s none =
-      let P : List Record → Type 0 = λ l. ArePlaces list imei l places in
-      subst P (sym (append-nil s.done) ∙ ap (λ (l : List (List ℕ)). s.done ++ in_codec codec l) (sym none) ∙ s.split) s.placed
 
 pub few-records : (codec : Codec) (body : List ℕ) (w : IsWhole codec body) → length (records_of body) < 256
 few-records codec body w =

@@ -1,5 +1,5 @@
 -- The lines of a packet's records are appended one by one.
-use Rattle.std.proofs.Common.{◌≡◌, ℕ, List, [], ◌∷◌, ◌++◌, map, refl, ap, sym, ◌∙◌, append_assoc, append-nil, subst}
+use Rattle.std.proofs.Common.{◌≡◌, ℕ, List, [], ◌∷◌, ◌++◌, map, refl, ap, sym, ◌∙◌, append_assoc, subst}
 use Rattle.std.specs.List.{AllByRecursion, flat_map}
 use Rattle.avl_values.specs.RecordValue.{RecordValue}
 use Rattle.avl_values.specs.declared.codec.Codec.{Codec}
@@ -37,9 +37,6 @@ one_less codec line r left rest now new whole missing step pushed =
           ∙ ap (λ rs. now ++ flat_map (line_in codec line) rs) (sym step) ∙ missing.is;
     }
 
-pub none_missing : (codec : Codec) (line : ℕ) (left : List (List ℕ)) (now whole : List ℕ) → Missing codec line left now whole → left ≡ [] → now ≡ whole
-none_missing codec line left now whole missing none = sym (append-nil now) ∙ ap (λ rs. now ++ flat_map (line_in codec line) rs) (sym none) ∙ missing.is
-
 -- all lines but the first are missing
 
 of_codec : (codec : Codec) (line : ℕ) (rs : List (List ℕ)) → flat_map (record_line line) (map (λ r. record { codec = codec; bytes = r }) rs) ≡ flat_map (line_in codec line) rs
@@ -59,6 +56,3 @@ all_missing head body line rs old now packet pushed =
 pub extends_more : (old now new : List ℕ) → Extends old now → Extends now new → Extends old new
 extends_more old now new first second =
     record { more = first.more ++ second.more; is = second.is ∙ ap (λ t. t ++ second.more) first.is ∙ append_assoc old first.more second.more }
-
-pub extends_as : (old now new : List ℕ) → Extends old now → new ≡ now → Extends old new
-extends_as old now new extends same = record { more = extends.more; is = same ∙ extends.is }

@@ -1,5 +1,5 @@
 -- What is sent to a serializer, token by token.
-use Rattle.std.proofs.Common.{◌≡◌, ℕ, ℤ, Bool, List, [], ◌∷◌, ◌++◌, Some, None, Option, decimal, false, refl, sym, ap, ◌∙◌, subst, inl, inr, arith, append_assoc, append-nil}
+use Rattle.std.proofs.Common.{◌≡◌, ℕ, ℤ, Bool, List, [], ◌∷◌, ◌++◌, Some, None, Option, decimal, false, refl, sym, ap, ◌∙◌, subst, arith, append_assoc, append-nil}
 use Rattle.std.proofs.lemmas.Grind.{common_steps}
 use Rattle.std.specs.Fmt.{signed_decimal}
 use Rattle.json.specs.Lex.{tokens}
@@ -44,17 +44,8 @@ array_begun n s m plain step = grind (arith, common_steps)
 array_ended : IsWrittenAs json.end_array event.seq_ends
 array_ended s m plain step = grind (arith, common_steps)
 
-object_begun : (n : Option ℕ) → IsWrittenAs json.begin_object (event.map_begins n)
-object_begun n s m plain step = grind (arith, common_steps)
-
 key_written : (k : List ℕ) → IsWrittenAs (json.key k) (event.field_key k AsIs)
 key_written k s m plain step = grind (arith, common_steps, spelled-AsIs Field k)
-
-object_ended : IsWrittenAs json.end_object event.map_ends
-object_ended s m plain step = elim step [
-  | inl flat ↦ absurd (grind (arith, common_steps, flat.1, plain.no_flat))
-  | inr braced ↦ grind (arith, common_steps, braced.1)
-]
 
 -- One event after another.
 
@@ -78,12 +69,6 @@ array_begin_sent n old new sent = one json.begin_array (event.seq_begins n) old 
 
 pub array_end_sent : (old new : Log) → Logs old new event.seq_ends → Sends (json.end_array ∷ []) old new
 array_end_sent old new sent = one json.end_array event.seq_ends old new array_ended sent
-
-pub object_begin_sent : (n : Option ℕ) (old new : Log) → Logs old new (event.map_begins n) → Sends (json.begin_object ∷ []) old new
-object_begin_sent n old new sent = one json.begin_object (event.map_begins n) old new (object_begun n) sent
-
-pub object_end_sent : (old new : Log) → Logs old new event.map_ends → Sends (json.end_object ∷ []) old new
-object_end_sent old new sent = one json.end_object event.map_ends old new object_ended sent
 
 pub key_sent : (k : List ℕ) (old new : Log) → Logs old new (event.field_key k AsIs) → Sends (json.key k ∷ []) old new
 key_sent k old new sent = one (json.key k) (event.field_key k AsIs) old new (key_written k) sent

@@ -1,5 +1,5 @@
 -- A tracker with no talk, and one whose talk begins.
-use Rattle.std.proofs.Common.{◌≡◌, ◌<◌, false, Bool, List, [], ℕ, length, sym, subst, ◌∙◌, arith}
+use Rattle.std.proofs.Common.{◌≡◌, ◌<◌, false, Bool, List, [], ℕ, length, sym, subst, arith}
 use Rattle.std.proofs.lemmas.Bool.{false≢true}
 use Rattle.layout.specs.Rows.{short}
 use Rattle.item_streams.specs.Readers.{Reader}
@@ -7,16 +7,6 @@ use Rattle.frame_layout.specs.DownRows.{down_verdict}
 use Rattle.frame_layout.proofs.Lengths.{starts_short_down}
 use Rattle.flash_ring.specs.Images.{AreDistinct, AreOpen}
 use Rattle.tracker_session.specs.Trackers.{IsTracker, TrackerView}
-
-pub silent-tracker : (v : TrackerView) → v.talking ≡ false → v.batch ≡ [] → IsTracker v
-silent-tracker v talking batch =
-    let P : List ℕ → Type 0 = λ ks. AreOpen ks v.ring.slots in
-    record {
-      opens = subst P (sym batch) (λ j has. absurd (false≢true has));
-      distinct = subst AreDistinct (sym batch) tt;
-      few = subst (λ (ks : List ℕ). length ks < 256) (sym batch) (omega arith);
-      talk = λ yes_talking. absurd (false≢true (sym talking ∙ yes_talking));
-    }
 
 -- a tracker with this reader
 abbrev pub with_reader : TrackerView → Reader → TrackerView

@@ -1,5 +1,5 @@
 -- What keeping a record leaves of the ring and of the losses' list (this project's own).
-use Rattle.std.specs.Prelude.{◌≡◌, ℕ, ◌+◌, ◌≤◌, ◌==◌, ◌^◌, if◌then◌else◌, Bool, true, false, List, [], ◌∷◌, ◌++◌, length, Option, Result, Ok, Err}
+use Rattle.std.specs.Prelude.{◌≡◌, ℕ, ◌+◌, ◌≤◌, if◌then◌else◌, Bool, true, false, List, [], ◌∷◌, ◌++◌, length, Option, Result, Ok, Err}
 use Rattle.avl_values.specs.Causes.{Rose}
 use Rattle.avl_values.specs.Record.{Record}
 use Rattle.medium_model.specs.State.{Counted}
@@ -89,7 +89,3 @@ LeavesLosses (Err fault.ListFault) v old new = FailsToList v old new
 abbrev pub kept_as : Bool → Kept
 kept_as true = kept.StoredOver
 kept_as false = kept.Stored
-
--- a tracker that keeps records by one medium call, and so is never told to fail before: its next sequence is at its end
-abbrev pub is_spent : RingView → Bool
-is_spent v = v.next == 2 ^ 63

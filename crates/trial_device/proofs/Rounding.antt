@@ -19,7 +19,7 @@ use Rattle.trial_model.specs.Load.{load_by}
 use Rattle.trial_model.specs.declared.outcome.DeviceEnd.{DeviceEnd}
 use Rattle.trial_model.specs.declared.outcome.DeviceEnd.TheVariants as End
 use Rattle.trial_device.specs.Midway.{AreListsRight}
-use Rattle.trial_device.specs.SideLines.{EndsSide, HasDrained, RoundsSide, armed_ring, end_of}
+use Rattle.trial_device.specs.SideLines.{HasDrained, RoundsSide, armed_ring, end_of}
 use Rattle.trial_device.specs.Sides.{AreHeldRight, IsElsewhere, IsSideSound, Side}
 use Rattle.trial_device.proofs.Holding.{right-released}
 use Rattle.trial_device.proofs.Images.{durable-each, each-weaker}
@@ -147,15 +147,6 @@ module _ (drains : Bool) (result : Result RoundEnd MediumFault) (frames : ℕ) (
       let G : Option ℕ → Watching → DeviceHistory = λ fuse watching. history h.decisions load (unless_covered fuse watching) in
       let path = ap (λ w. G d.fuse w) s.watching ∙ ap (λ fuse. G fuse h.watching) s.fuse in
       (ends.0, subst (λ g. IsSideSound (heard ++ released) g e) path ends.1)
-
--- A round between the begin and the end of its line, as the code comes by it.
-pub rounds-side : (drains : Bool) (result : Result RoundEnd MediumFault) (frames : ℕ) (released : List Record) (d b w e : Side) → b ≡ record d { ring = armed_ring d.fuse d.ring } → w ≡ record b { ring = w.ring }
-    → RoundsRing result frames released b.ring w.ring → HasDrained drains (end_of result) w.ring → EndsSide w.fuse w e → RoundsSide drains result frames released d e
-rounds-side drains result frames released d b w e armed side ring drained ends =
-    let same : w ≡ record d { ring = w.ring } = side ∙ ap (λ (x : Side). record x { ring = w.ring }) armed in
-    let P : Side → Type 0 = λ x. RoundsRing result frames released x.ring w.ring in
-    let Q : Side → Type 0 = λ x. EndsSide x.fuse x e in
-    record { between = w.ring; ring = subst P armed ring; drained = drained; ends = subst Q same ends }
 
 held-few : (slots : List (Option Held)) → length (held_of slots) ≤ length slots
 held-few slots = let most = count_most Oldest 0 slots in omega (arith, held_count slots)

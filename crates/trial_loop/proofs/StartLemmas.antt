@@ -51,13 +51,6 @@ next-side R [] ys x y all below is here = absurd (omega (arith, below))
 next-side R (z ∷ xs) [] x y all below is here = (subst (λ w. R w y) is here, tt)
 next-side R (z ∷ xs) (w ∷ ys) x y all below is here = (all.0, next-side R xs ys x y all.1 (omega (arith, below)) is here)
 
--- a side for each
-pub all-sides : {A B : Type 0} (R : A → B → Type 0) (xs : List A) (ys : List B) → AllZip R (take (length ys) xs) ys → length ys ≡ length xs → AllZip R xs ys
-all-sides R [] [] all same = tt
-all-sides R [] (y ∷ ys) all same = absurd (omega (arith, same))
-all-sides R (x ∷ xs) [] all same = absurd (omega (arith, same))
-all-sides R (x ∷ xs) (y ∷ ys) all same = (all.0, all-sides R xs ys all.1 (omega (arith, same)))
-
 -- the one after a front of a list
 pub in-middle : {A : Type 0} (P : A → Type 0) (front : List A) (x : A) (back xs : List A) → front ++ x ∷ back ≡ xs → All P xs → P x
 in-middle {A = A} P front x back xs is all = at front (subst (All P) (sym is) all)

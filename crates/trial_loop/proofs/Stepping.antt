@@ -13,13 +13,12 @@ use Rattle.shelf.specs.Shelf.{ShelfView}
 use Rattle.trial_model.specs.declared.outcome.ConnectionOutcome.{ConnectionOutcome}
 use Rattle.trial_model.specs.declared.script.ScriptLine.{ScriptLine}
 use Rattle.trial_model.specs.declared.script.ScriptLine.TheVariants as Line
-use Rattle.trial_model.specs.declared.script.Who.TheVariants as Who
 use Rattle.trial_model.specs.Connections.{is_whole}
 use Rattle.trial_model.specs.Script.{Device, Opening, devices_of, lines_of, opening_of}
 use Rattle.trial_device.specs.Sides.{Side}
 use Rattle.trial_device.proofs.Images.{each-sound}
 use Rattle.trial_play.specs.Plays.{OneSide, Plays}
-use Rattle.trial_play.specs.ServerLines.{EndsLine, PlaysServerPower, StaysServer}
+use Rattle.trial_play.specs.ServerLines.{EndsLine, StaysServer}
 use Rattle.trial_play.specs.Trials.{TrialState}
 use Rattle.trial_play.proofs.Places.{same-at}
 use Rattle.trial_server.specs.Serving.{armed}
@@ -168,10 +167,6 @@ connects-round old new imei piece up down c = record { plays = λ script n next.
 
 pub connects-drain : (old new : LoopState) (imei piece : ℕ) → Connects (record { imei = imei; drains = true; up = None; down = None }) old new → PlaysNext (Line.Drain imei piece) old new
 connects-drain old new imei piece c = record { plays = λ script n next. c.plays script n (Line.Drain imei piece) refl next; known = c.known }
-
--- What lines do that speak of the server alone, or of nothing.
-pub server-powers : (old new : LoopState) → PlaysServerPower old.trial new.trial → new.trial.sides ≡ old.trial.sides → new.known ≡ old.known → PlaysNext (Line.Power Who.Server) old new
-server-powers old new power sides known = record { plays = λ script n next. (power, sides); known = known }
 
 -- lines that say what a script's devices are
 pub device-plays : (s : LoopState) (imei : ℕ) (codec : Codec) (slots : ℕ) (order : Order) (period distance angle speed : ℕ) (known : Bool) → PlaysNext (Line.Device imei codec slots order period distance angle speed known) s s

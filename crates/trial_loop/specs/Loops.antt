@@ -1,11 +1,10 @@
 -- A trial between two lines of its script, and its next line.
-use Rattle.std.specs.Prelude.{◌≡◌, ℕ, List, map, slice_get, take, Some}
+use Rattle.std.specs.Prelude.{◌≡◌, ℕ, List, slice_get, take, Some}
 use Rattle.journey_script.specs.Grammar.{IsScript}
 use Rattle.session_core.specs.declared.known.Known.{Known}
 use Rattle.session_core.specs.Knowing.{knows}
 use Rattle.trial_model.specs.declared.script.ScriptLine.{ScriptLine}
 use Rattle.trial_model.specs.Script.{Device, Opening, Script, devices_of, is_known, lines_of, opening_of}
-use Rattle.trial_device.specs.Sides.{Side}
 use Rattle.trial_play.specs.Plays.{Plays, PlaysConnection}
 use Rattle.trial_play.specs.Trials.{IsTrialSound, TrialState}
 
@@ -38,7 +37,3 @@ pub record PlaysNext (line : ScriptLine) (old new : LoopState) : Type 0 where
 pub record Connects (o : Opening) (old new : LoopState) : Type 0 where
   pub plays : (script : Script) (n : ℕ) (l : ScriptLine) → opening_of l ≡ Some o → IsNext script n l old → PlaysConnection (devices_of (lines_of script)) (take n (lines_of script)) l o old.trial new.trial
   pub known : new.known ≡ old.known
-
--- the devices of some sides
-abbrev pub devices_in : List Side → List Device
-devices_in sides = map (λ (d : Side). d.device) sides

@@ -53,10 +53,6 @@ server-lines lines = from (record { lines = []; connections = []; fuse = None })
     from h [] = sym (append-nil h.lines)
     from h (l ∷ ls) = from (server_after h l) ls ∙ append_assoc h.lines (l ∷ []) ls
 
-pub connecting-append : (lines more : List ScriptLine) → connecting (lines ++ more) ≡ connecting lines + connecting more
-connecting-append [] more = omega arith
-connecting-append (l ∷ lines) more = omega (arith, connecting-append lines more)
-
 pub connecting-take : (i : ℕ) (lines : List ScriptLine) → connecting (take i lines) ≤ connecting lines
 connecting-take zero lines = omega arith
 connecting-take (suc i) [] = omega arith

@@ -44,9 +44,6 @@ module _ (before : List Record) (imei : ℕ) (f : Frame) (old new : ShelfView) (
   left-passed : (k : ℕ) → old.medium.left ≡ after k → new.medium.left ≡ after (k - cost)
   left-passed k left = a.leaves.counted.left ∙ (ap (less cost) left ∙ less-within cost k (passed k left))
 
-  left-unlimited : old.medium.left ≡ unlimited → new.medium.left ≡ unlimited
-  left-unlimited left = a.leaves.counted.left ∙ ap (less cost) left
-
   known-more : AreIn (before ++ f.records) (recs_for imei new.list)
   known-more =
       let list_is : new.list ≡ admitted old.list imei f.records = a.leaves.admits.list ∙ ap (admitted old.list imei) a.records in

@@ -1,9 +1,7 @@
 -- The archive as a trial begins, and as the power comes back.
-use Rattle.std.proofs.Common.{◌≡◌, ℕ, List, [], Option, Some, None, Ok, Err, Result, IsSome, IsOk, OnOk, refl, sym, ◌∙◌, ap, subst, arith}
+use Rattle.std.proofs.Common.{◌≡◌, ℕ, List, [], Option, Some, None, refl, sym, ◌∙◌, ap, subst, arith}
 use Rattle.std.specs.List.{Contains}
-use Rattle.std.proofs.lemmas.Bool.{false≢true}
 use Rattle.std.proofs.lemmas.List.Elements.{All-nil}
-use Rattle.avl_values.specs.declared.errors.NoMemory.{NoMemory}
 use Rattle.medium_model.specs.Content.{Content, settled}
 use Rattle.medium_model.specs.PowerLoss.{EveryImage}
 use Rattle.medium_model.specs.State.{IfTold}
@@ -13,11 +11,10 @@ use Rattle.archive_journal.specs.Journal.{HoldsWith, IsTold, KeepsEntries, entri
 use Rattle.archive_journal.proofs.Walks.{small-entries}
 use Rattle.record_lists.proofs.EachOnce.{once-none}
 use Rattle.shelf.specs.Archive.{list_of}
-use Rattle.shelf.specs.Shelf.{IsDurable, IsRestarted, ShelfView}
+use Rattle.shelf.specs.Shelf.{IsDurable, ShelfView}
 use Rattle.shelf.proofs.Laws.{each_once-none}
 use Rattle.trial_model.specs.RecordLists.{AreIn}
 use Rattle.trial_server.specs.Archives.{Account, AreRightEntries, IsRightList, IsRightShelf}
-use Rattle.trial_server.specs.Serving.{Restarts}
 
 right-none : (given counted : Account) → ((j : ℕ) → counted j ≡ []) → IsRightList given counted []
 right-none given counted none = record {
@@ -52,9 +49,3 @@ starts-shelf given counted before v none empty durable lists keeps = record {
       sound = (told image im).sound;
       holds = subst (AreRightEntries given counted) (sym (nothing before image empty (kept image im))) (record { list = right-none given counted none; each_once = each_once-none });
     }
-
--- What `Shelf::restart` says is a restart in a trial's words.
-pub restarts-shelf : (result : Result (Unit {0}) NoMemory) (old new : ShelfView) → IsOk result → OnOk result (IsRestarted old new) → OnOk result (IsDurable new)
-    → IsSome old.medium.content × IsSome new.medium.content → Restarts old new
-restarts-shelf (Ok done) old new ok restarted durable told = record { restarted = restarted; durable = durable; told = told.0 }
-restarts-shelf (Err e) old new ok restarted durable told = absurd (false≢true ok)

@@ -13,10 +13,6 @@ use Rattle.trial_model.specs.RecordLists.{AreIn}
 abbrev pub Account : Type 0
 Account = ℕ → List Record
 
--- no record of any device
-abbrev pub no_records : Account
-no_records imei = []
-
 -- an account with these records more under this device
 abbrev pub with_records : ℕ → List Record → Account → Account
 with_records imei rs account j = account j ++ (if imei == j then rs else [])

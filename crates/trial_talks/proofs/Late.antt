@@ -27,11 +27,6 @@ use Rattle.trial_talks.proofs.Starting.{going-hears}
 
 -- The place up to which a `late` line's bytes go: no further back, and by the line's number from where the session stands.
 
-pub late-order : (allowed bytes : Option ℕ) (sent given : ℕ) → given ≡ up_to allowed sent → given ≤ up_to (plus allowed bytes) sent
-late-order None bytes sent given is = omega (arith, is)
-late-order (Some m) None sent given is = omega (arith, is)
-late-order (Some m) (Some n) sent given is = omega (arith, is)
-
 pub late-place : (allowed bytes : Option ℕ) (sent given : ℕ) → given ≡ up_to allowed sent → up_to (plus allowed bytes) sent ≡ up_to (plus (Some given) bytes) sent
 late-place None None sent given is = refl
 late-place None (Some n) sent given is = omega (arith, is)

@@ -1,6 +1,5 @@
 pub mod Answering
 pub mod Bodies
-pub mod Keeping
 pub mod Late
 pub mod NoCommands
 pub mod Rounds

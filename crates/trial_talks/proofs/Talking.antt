@@ -145,10 +145,6 @@ module _ (result : Result RoundEnd MediumFault) (earlier listed : List Record) (
     | inr less ↦ zero-one (heard_bytes c) (ap (take 1) is) less.0
   ]
 
-  -- what each end is not
-  is-done : (n : ℕ) → DeviceEnd → Type 0
-  is-done n d = d ≡ End.Done n
-
   never-empty : c.up ≡ [] → ⊥
   never-empty none = omega (arith, up-some, ap length none)
 

@@ -1,13 +1,11 @@
--- A connection's log, by the round of its device and the wire of its line; and the sessions that are kept between lines.
-use Rattle.std.specs.Prelude.{◌≡◌, ℕ, Bool, List, [], length, take, Option, Some, None, IfSome, is_none, is_some, Result, Ok, if◌then◌else◌}
-use Rattle.std.specs.List.{AllZip}
+-- A connection's log, by the round of its device and the wire of its line.
+use Rattle.std.specs.Prelude.{◌≡◌, ℕ, Bool, List, [], length, take, Option, Some, None, is_none, Result, Ok}
 use Rattle.avl_values.specs.Causes.{Rose}
 use Rattle.avl_values.specs.Record.{Record}
 use Rattle.avl_values.specs.declared.errors.MediumFault.{MediumFault}
 use Rattle.flash_ring.specs.Ring.{RingView}
 use Rattle.session_core.specs.declared.known.Known.{Known}
 use Rattle.session_core.specs.Knowing.{knows}
-use Rattle.session_core.specs.Sessions.{SessionState}
 use Rattle.shelf.specs.Shelf.{ShelfView}
 use Rattle.tracker_session.specs.RingRounds.{RoundsRing}
 use Rattle.tracker_session.specs.Turns.{BreaksWith}
@@ -20,8 +18,8 @@ use Rattle.trial_model.specs.declared.outcome.ServerEnd.{ServerEnd}
 use Rattle.trial_model.specs.Delivery.{heard_of}
 use Rattle.trial_model.specs.Frames.{records_in}
 use Rattle.trial_model.specs.Script.{Opening}
-use Rattle.trial_wire.specs.Connections.{Connection, IsRounded}
-use Rattle.trial_wire.specs.Hearing.{HasTaken, end_now, rest_in}
+use Rattle.trial_wire.specs.Connections.{IsRounded}
+use Rattle.trial_wire.specs.Hearing.{end_now, rest_in}
 use Rattle.trial_wire.specs.WireLinks.{Follows, WireState, link_state}
 
 -- how a session ended, or would end now, with N bytes of an unfinished item
@@ -53,15 +51,3 @@ pub record HasRounded (known : Known) (o : Opening) (cover : Option ℕ) (earlie
   pub failed : Bool
   pub rounded : IsRounded (knows known o.imei) failed cover earlier o (log_of o.imei result w) (is_none w.ended) s w.shelf
   pub ring : RoundsRing result (length (heard_of (log_of o.imei result w))) (records_in (heard_of (log_of o.imei result w))) old new
-
--- A session is kept between lines just where it goes on, and it has read just the bytes that its connection's log says were given to it.
-pub record IsKept (w : Connection) (session : Option SessionState) : Type 0 where
-  pub goes : w.going ≡ is_some session
-  pub taken : IfSome session (HasTaken (take w.log.up_given w.log.up))
-
--- the sessions of all connections, in their order
-abbrev pub AreKept : List Connection → List (Option SessionState) → Type 0
-AreKept ws sessions = AllZip IsKept ws sessions
-
-abbrev pub kept_if : Bool → SessionState → Option SessionState
-kept_if going s = if going then Some s else None

@@ -18,10 +18,6 @@ pub up_to-least : (limit : Option ℕ) (n : ℕ) → up_to limit n ≤ n
 up_to-least None n = omega arith
 up_to-least (Some m) n = omega arith
 
-pub up_to-grows : (limit : Option ℕ) (n m : ℕ) → n ≤ m → up_to limit n ≤ up_to limit m
-up_to-grows None n m low = low
-up_to-grows (Some k) n m low = omega arith
-
 -- before the first byte
 pub wire-new : (w : WireState) (shelf : ShelfView) (known : Known) (limit most : Option ℕ) → w ≡ new_wire shelf known limit most → IsWire w
 wire-new w shelf known limit most is = subst IsWire (sym is) (record {
